@@ -1,0 +1,14 @@
+pub mod Expression
+pub mod Stored
+pub mod Substitution
+pub mod Script
+pub mod Checking
+pub mod Derivation
+pub mod Token
+pub mod Reading
+pub mod Grammar
+pub mod Refusal
+pub mod Book
+pub mod Naming
+pub mod Rule
+pub mod Log
