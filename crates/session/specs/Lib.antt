@@ -1,3 +1,4 @@
+pub mod Law
 pub mod Lines
 pub mod Output
 pub mod Session

@@ -1,5 +1,6 @@
 // Replays a log of requests to a library, and gives what is printed for it.
 ghost use Rattle.requests.specs.Asked.{asked};
+ghost use Rattle.session.specs.Law.{FollowsRules};
 ghost use Rattle.session.specs.Output.{output, printed, tallied};
 ghost use Rattle.session.specs.Session.{after, answer-to};
 ghost use Rattle.std.specs.Of.String.{string-bytes};
@@ -48,8 +49,8 @@ fn step(
     Ok(())
 }
 
-// What the program prints for a log.
-pub fn replay(heap: Global, log: &[u8]) -> Result<String, AllocError>
+// Takes the lines of a log one after another.
+fn take_lines(heap: Global, log: &[u8]) -> Result<String, AllocError>
     ensures { λ r. ⌜ made r (λ s. string-bytes s ≡ output (now (log .entry))) ⌝ }
 {
     let mut out = String::new(heap);
@@ -66,4 +67,12 @@ pub fn replay(heap: Global, log: &[u8]) -> Result<String, AllocError>
     let closing = tally.closing_line(heap, 0)?;
     push_line(&mut out, closing.as_str())?;
     Ok(out)
+}
+
+// What the program prints for a log.
+pub fn replay(heap: Global, log: &[u8]) -> Result<String, AllocError>
+    ensures prints { λ r. ⌜ made r (λ s. string-bytes s ≡ output (now (log .entry))) ⌝ }
+    ensures follows { λ _. ⌜ FollowsRules ⌝ }
+{
+    take_lines(heap, log)
 }

@@ -5,7 +5,7 @@ use lib.ListN.{length}
 use Rattle.std.specs.Of.String.{string-bytes}
 use Rattle.session.specs.Lines.{lines}
 use Rattle.session.specs.Output.{output, output-from}
-use Rattle.session.proofs.replay.Given as given
+use Rattle.session.proofs.take_lines.Given as given
 
 -- What is printed, and what is still to be printed, are the whole; no more lines are taken than bytes.
 abbrev pub Inv-loop-rest : given.InvT-loop-rest
