@@ -1,4 +1,4 @@
--- The turns of the loop that lists constants. Assumes nothing.
+-- The turns of the loop that lists constants.
 use mathlib.Core.Path.{_≡_, refl, sym, ap, _∙_}
 use mathlib.Core.List.{List, [], _∷_, _++_, append-nil, append-assoc}
 use Prim.Native.Nat.{ℕ, _+_, _≤_, _<_}

@@ -1,4 +1,4 @@
--- The turns of the loops over bytes. Assumes nothing.
+-- The turns of the loops over bytes.
 use mathlib.Core.Path.{_≡_, refl, sym, ap, _∙_}
 use mathlib.Core.Bool.{Bool, true, false, cond, _&&_, _||_}
 use mathlib.Core.List.{List, [], _∷_, _++_, append-nil, append-assoc}
