@@ -8,7 +8,8 @@ use Rattle.std.specs.declared.option.Option.{Option}
 use Rattle.std.specs.declared.option.Option.the-variants.{Some, None}
 use Rattle.answers.specs.declared.Fault.{Fault}
 use Rattle.answers.specs.Said.{Said, store, table, numbers, declared, claimed, count, look-up, listed, sealed, refused, not-served, barred, no-request}
-use Rattle.answers.specs.Words.{kind-bytes, verb-bytes, reason-bytes, spaced}
+use Rattle.requests.specs.Words.{kind-bytes, verb-bytes}
+use Rattle.answers.specs.Words.{reason-bytes, spaced}
 
 -- a constant's number, or that there is none
 abbrev pub found-bytes : Option ℕ → List ℕ

@@ -1,7 +1,8 @@
 // Writes the answers to the requests of a log, one line each.
 ghost use Rattle.answers.specs.Line.{answer-bytes, fault-bytes};
 ghost use Rattle.answers.specs.Said.{listed, look-up, meaning, refused};
-ghost use Rattle.answers.specs.Words.{kind-bytes, reason-bytes, verb-bytes};
+ghost use Rattle.answers.specs.Words.{reason-bytes};
+ghost use Rattle.requests.specs.Words.{kind-bytes, verb-bytes};
 ghost use Rattle.std.specs.Of.String.{string-bytes};
 ghost use Rattle.std.specs.Vec.{made};
 ghost use Rattle.std.specs.Written.{decimal};

@@ -2,14 +2,14 @@
 use mathlib.Core.Bool.{Bool, cond, _||_}
 use mathlib.Core.List.{List, [], _∷_}
 use Prim.Native.Nat.{ℕ}
-use Prim.Native.String.{String}
 use denote.Ref.{now}
-use lib.Chars.{codes}
 use Rattle.std.specs.declared.option.Option.{Option}
 use Rattle.std.specs.declared.option.Option.the-variants.{Some, None}
 use Rattle.std.specs.shelf.Text.{sameBytes}
-use Rattle.requests.specs.Bytes.{is-blank, every, begins, holds, before, after}
+use Rattle.rules.specs.Token.{is-blank, begins-with}
+use Rattle.requests.specs.Bytes.{every, holds, before, after}
 use Rattle.requests.specs.Decimal.{read-decimal}
+use Rattle.requests.specs.Words.{kind-bytes, verb-bytes}
 use Rattle.requests.specs.declared.StoreKind.{StoreKind}
 use Rattle.requests.specs.declared.StoreKind.the-variants.{Flat, Module}
 use Rattle.requests.specs.declared.Request.{Request}
@@ -34,10 +34,6 @@ pub data Asked : Type 0 where
   carries : ℕ → Asked
   seal : Asked
 
--- the bytes are those of the text
-abbrev pub is : List ℕ → String → Bool
-is bytes text = sameBytes bytes (codes text)
-
 -- a request with a part of its operand that may be missing
 abbrev pub with : {X : Type 0} → (X → Asked) → Option X → Asked
 with ask None = unknown
@@ -50,21 +46,21 @@ lone ask (x ∷ xs) = unknown
 
 -- the kind of store that a name names
 abbrev pub kind-named : List ℕ → Option StoreKind
-kind-named name = cond (is name "flat") (Some Flat) (cond (is name "module") (Some Module) None)
+kind-named name = cond (sameBytes name (kind-bytes Flat)) (Some Flat) (cond (sameBytes name (kind-bytes Module)) (Some Module) None)
 
 -- the verb that a word spells
 abbrev pub verb-named : List ℕ → Option Verb
 verb-named word =
-    cond (is word "store") (Some verb.Store)
-    (cond (is word "table") (Some verb.Table)
-    (cond (is word "numbers") (Some verb.Numbers)
-    (cond (is word "declare") (Some verb.Declare)
-    (cond (is word "claim") (Some verb.Claim)
-    (cond (is word "count") (Some verb.Count)
-    (cond (is word "look-up") (Some verb.LookUp)
-    (cond (is word "rests-on") (Some verb.RestsOn)
-    (cond (is word "carries") (Some verb.Carries)
-    (cond (is word "seal") (Some verb.Seal) None)))))))))
+    cond (sameBytes word (verb-bytes verb.Store)) (Some verb.Store)
+    (cond (sameBytes word (verb-bytes verb.Table)) (Some verb.Table)
+    (cond (sameBytes word (verb-bytes verb.Numbers)) (Some verb.Numbers)
+    (cond (sameBytes word (verb-bytes verb.Declare)) (Some verb.Declare)
+    (cond (sameBytes word (verb-bytes verb.Claim)) (Some verb.Claim)
+    (cond (sameBytes word (verb-bytes verb.Count)) (Some verb.Count)
+    (cond (sameBytes word (verb-bytes verb.LookUp)) (Some verb.LookUp)
+    (cond (sameBytes word (verb-bytes verb.RestsOn)) (Some verb.RestsOn)
+    (cond (sameBytes word (verb-bytes verb.Carries)) (Some verb.Carries)
+    (cond (sameBytes word (verb-bytes verb.Seal)) (Some verb.Seal) None)))))))))
 
 -- what a verb asks with its operand
 abbrev pub asked-by : Verb → List ℕ → Asked
@@ -87,7 +83,7 @@ requested line = with (λ v. asked-by v (after 32 line)) (verb-named (before 32 
 
 -- what a line asks: nothing where it is blank or begins with '%'
 abbrev pub asked : List ℕ → Asked
-asked line = cond (every is-blank line || begins 37 line) passed (requested line)
+asked line = cond (every is-blank line || begins-with 37 line) passed (requested line)
 
 -- what the code's request says, with what its slices hold
 abbrev pub request-meaning : Request → Asked

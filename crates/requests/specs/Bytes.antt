@@ -4,19 +4,10 @@ use mathlib.Core.List.{List, [], _∷_}
 use Prim.Native.Nat.{ℕ}
 use lib.Dec.{eqb}
 
--- a tab, a line feed, a carriage return or a space
-abbrev pub is-blank : ℕ → Bool
-is-blank b = eqb b 9 || (eqb b 10 || (eqb b 13 || eqb b 32))
-
 -- each byte passes the test
 abbrev pub every : (ℕ → Bool) → List ℕ → Bool
 every test [] = true
 every test (x ∷ xs) = test x && every test xs
-
--- the first byte is b
-abbrev pub begins : ℕ → List ℕ → Bool
-begins b [] = false
-begins b (x ∷ xs) = eqb x b
 
 -- some byte is b
 abbrev pub holds : ℕ → List ℕ → Bool

@@ -2,3 +2,4 @@ pub mod Asked
 pub mod Bytes
 pub mod Decimal
 pub mod Parts
+pub mod Words

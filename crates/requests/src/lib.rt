@@ -1,8 +1,9 @@
 // Reads the lines of a log of requests.
 ghost use Rattle.requests.specs.Asked.{asked, asked-by, asking, kind-named, lone, meaning, request-meaning, requested, verb-named};
-ghost use Rattle.requests.specs.Bytes.{after, before, begins, every, is-blank};
+ghost use Rattle.requests.specs.Bytes.{after, before, every};
 ghost use Rattle.requests.specs.Decimal.{read-decimal};
 ghost use Rattle.requests.specs.Parts.{Divided};
+ghost use Rattle.rules.specs.Token.{begins-with, is-blank};
 ghost use Rattle.std.specs.shelf.Text.{sameBytes};
 ghost use mathlib.Core.Path.{_≡_};
 
@@ -81,7 +82,7 @@ fn is_blank_line(line: &[u8]) -> bool
 }
 
 fn is_comment(line: &[u8]) -> bool
-    ensures { λ r. ⌜ r ≡ begins 37 (now (line .entry)) ⌝ }
+    ensures { λ r. ⌜ r ≡ begins-with 37 (now (line .entry)) ⌝ }
 {
     matches!(line, [b'%', ..])
 }

@@ -194,7 +194,8 @@ module _ (find : List ℕ → Option ℕ) (bs : List ℕ) where
   args-by exp args g d p t left-brace = parsed nil p
   args-by exp args g d p t (mark m) = parsed nil p
 
-  -- exp and args in n levels of calls at most; more levels than bytes are left always suffice, so the fault 0 is never answered
+  -- exp and args in n levels of calls at most. Each call takes a byte before it calls on, so that more levels than bytes are left suffice;
+  -- the number 0 stands for too few.
   unfoldable mutual
     pub read-exp : ℕ → Reader
     read-exp zero g d p = misread 0 p

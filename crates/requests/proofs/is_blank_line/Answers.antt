@@ -1,5 +1,5 @@
 use mathlib.Core.Path.{sym, _∙_}
-use Rattle.requests.specs.Bytes.{is-blank}
+use Rattle.rules.specs.Token.{is-blank}
 use Rattle.requests.proofs.Steps.{every-goes, every-stops, every-ends}
 use Rattle.requests.proofs.is_blank_line.Needs as need
 

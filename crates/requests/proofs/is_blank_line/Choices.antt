@@ -1,6 +1,7 @@
 use mathlib.Core.Path.{_≡_}
 use lib.ListN.{drop}
-use Rattle.requests.specs.Bytes.{is-blank, every}
+use Rattle.rules.specs.Token.{is-blank}
+use Rattle.requests.specs.Bytes.{every}
 use Rattle.requests.proofs.is_blank_line.Given as given
 
 -- the rest decides
