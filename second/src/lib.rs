@@ -1,14 +1,19 @@
-//! A second checker of canonical LF: reading, judgements, stores, libraries and logs.
+//! A second checker of canonical LF, a generator of logs, and comparisons by them.
 
+pub mod compare;
 pub mod fault;
+pub mod generate;
 pub mod judgement;
+pub mod lemmas;
 pub mod lexer;
 pub mod library;
 pub mod log;
+pub mod notation;
 pub mod reader;
 pub mod store;
 pub mod substitution;
 pub mod tree;
+pub mod vectors;
 
 pub use fault::Fault;
 pub use library::Library;

@@ -149,6 +149,15 @@ impl Session {
         self.table
     }
 
+    /// The length of the number table.
+    pub fn numbers(&self) -> usize {
+        self.numbers
+    }
+
+    pub fn is_sealed(&self) -> bool {
+        self.sealed
+    }
+
     /// Carries out the request of a line. None if the line is no request.
     fn answer(&mut self, line: &[u8]) -> Option<Reply> {
         let (word, operand) = divide(line);
@@ -230,7 +239,7 @@ fn passed_over(line: &[u8]) -> bool {
 }
 
 /// The word and the operand of a line.
-fn divide(line: &[u8]) -> (&[u8], &[u8]) {
+pub fn divide(line: &[u8]) -> (&[u8], &[u8]) {
     match line.iter().position(|byte| *byte == b' ') {
         Some(space) => (&line[..space], &line[space + 1..]),
         None => (line, &[]),
@@ -238,7 +247,7 @@ fn divide(line: &[u8]) -> (&[u8], &[u8]) {
 }
 
 /// A decimal of 1 to 9 digits, if it is at most `greatest`.
-fn decimal(operand: &[u8], greatest: usize) -> Option<usize> {
+pub fn decimal(operand: &[u8], greatest: usize) -> Option<usize> {
     if !(1..=9).contains(&operand.len()) || !operand.iter().all(u8::is_ascii_digit) {
         return None;
     }

@@ -53,6 +53,10 @@ impl Store {
         Store { kind, entries: Vec::new() }
     }
 
+    pub fn kind(&self) -> Kind {
+        self.kind
+    }
+
     pub fn count(&self) -> usize {
         self.entries.len()
     }
