@@ -6,9 +6,10 @@ use crate::notation::{bytes, expression, list};
 use crate::store::Kind;
 use crate::{generate, vectors};
 
-const FOR_PUTS: &str = "\
+const FOR_CASES: &str = "\
+use mathlib.Core.Bool.{true, false}
 use mathlib.Core.Path.{_≡_, refl}
-use Rattle.rules.specs.Expression.{con, idx, typ, pi, lam, app, nil, arg, base, arrow}
+use Rattle.rules.specs.Expression.{con, idx, typ, pi, lam, app, nil, arg, base, arrow, same}
 use Rattle.rules.specs.Substitution.{lift, put, made, lost}
 ";
 
@@ -145,9 +146,9 @@ fn answer(reply: &Reply) -> Option<String> {
     })
 }
 
-/// Lemmas about cases of lift and put.
-pub fn puts(count: usize, seed: u64) -> String {
-    let mut module = Module::new(FOR_PUTS);
+/// Lemmas about cases of put, lift and equality.
+pub fn cases(count: usize, seed: u64) -> String {
+    let mut module = Module::new(FOR_CASES);
     for (i, case) in vectors::cases(count, seed).iter().enumerate() {
         module.lemma(&format!("case-{i}"), &case.call, &case.result, "");
     }

@@ -9,7 +9,7 @@ use std::str::FromStr;
 const USAGE: &str = "usage: second replay [FILE]
        second generate SEED
        second compare PROGRAM COUNT FIRST [FILE...]
-       second lemmas puts COUNT SEED
+       second lemmas cases COUNT SEED
        second lemmas logs COUNT FIRST LONGEST";
 
 fn number<T: FromStr>(word: &str) -> Result<T, String> {
@@ -42,8 +42,8 @@ fn command(words: &[&str]) -> Result<bool, String> {
             let outcome = compare::compare(program, number(count)?, number(first)?, files);
             outcome.map_err(|error| format!("cannot read: {error}"))
         }
-        ["lemmas", "puts", count, seed] => {
-            print(lemmas::puts(number(count)?, number(seed)?).as_bytes())
+        ["lemmas", "cases", count, seed] => {
+            print(lemmas::cases(number(count)?, number(seed)?).as_bytes())
         }
         ["lemmas", "logs", count, first, longest] => {
             print(lemmas::logs(number(count)?, number(first)?, number(longest)?).as_bytes())

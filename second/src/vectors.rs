@@ -1,9 +1,9 @@
-//! Seeded cases of lift and put, in the notation of the definitions.
+//! Seeded cases of put, lift and equality, in the notation of the definitions.
 
 use crate::generate::random::Chance;
 use crate::notation;
 use crate::substitution::{put, Outcome, Shape};
-use crate::tree::{node, Binder, Exp, Form, Head};
+use crate::tree::{equal, node, Binder, Exp, Form, Head};
 use std::rc::Rc;
 
 /// A put that writes more nodes is no case.
@@ -137,6 +137,29 @@ impl Maker<'_> {
     }
 }
 
+/// The same expression, or one that differs from it in a few places.
+fn nearly(chance: &mut Chance, e: &Exp) -> Exp {
+    let form = match &e.form {
+        Form::Type => Form::Type,
+        Form::Product(x, a, b) => Form::Product(*x, nearly(chance, a), nearly(chance, b)),
+        Form::Abstraction(x, m) => Form::Abstraction(*x, nearly(chance, m)),
+        Form::Headed(head, spine) => {
+            let mut spine: Vec<Exp> = spine.iter().map(|m| nearly(chance, m)).collect();
+            match (chance.below(24), head) {
+                (0, _) => spine.push(node(0, Form::Type)),
+                (1, _) => drop(spine.pop()),
+                (2, Head::Constant(c)) => {
+                    return node(0, Form::Headed(Head::Constant(c + 1), spine))
+                }
+                (3, _) => return node(0, Form::Abstraction(Binder::fresh(), e.clone())),
+                _ => {}
+            }
+            Form::Headed(*head, spine)
+        }
+    };
+    node(0, form)
+}
+
 /// An equation: a call of a definition, and what it has to give.
 pub struct Case {
     pub call: String,
@@ -199,15 +222,27 @@ fn lift_case(chance: &mut Chance) -> Case {
     Case { call: format!("lift {d} {c} {before}"), result: notation::expression(&e, &mut scope) }
 }
 
-/// `count` cases. Every fourth is a lift, the others are puts.
+/// A comparison of an expression with itself or with one that is nearly the same.
+fn same_case(chance: &mut Chance) -> Case {
+    let mut maker = Maker::new(chance, true);
+    let mut scope = maker.scope(3);
+    let e = maker.target(&mut scope, 3);
+    let f = nearly(chance, &e);
+    let mut scope = binders(&scope);
+    let left = notation::expression(&e, &mut scope);
+    let right = notation::expression(&f, &mut scope);
+    Case { call: format!("same {left} {right}"), result: equal(&e, &f).to_string() }
+}
+
+/// `count` cases: of five, three are puts, one is a lift and one a comparison.
 pub fn cases(count: usize, seed: u64) -> Vec<Case> {
     let mut chance = Chance::new(seed);
     let mut cases = Vec::new();
     while cases.len() < count {
-        if cases.len() % 4 == 3 {
-            cases.push(lift_case(&mut chance));
-        } else {
-            cases.extend(put_case(&mut chance));
+        match cases.len() % 5 {
+            3 => cases.push(lift_case(&mut chance)),
+            4 => cases.push(same_case(&mut chance)),
+            _ => cases.extend(put_case(&mut chance)),
         }
     }
     cases

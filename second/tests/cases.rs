@@ -1,4 +1,4 @@
-//! Small cases for each refusal, over the worked library of eight constants.
+//! Small cases, at least one for each refusal, most over the worked library of eight constants.
 
 use second::substitution::{put, shape, Outcome};
 use second::tree::{node, Binder, Form, Head};
@@ -148,6 +148,7 @@ fn sizes() {
             (13, "declare q : nat", &no("declare", 12, 0, 0, 0)),
             (14, "declare q : nat", "declare accepted: constant 8, work 3"),
             (0, "declare", &no("declare", 15, 0, 0, 0)),
+            (20, "declare \tq\r:\rnat\t", "declare accepted: constant 8, work 3"),
         ]);
     });
 }
@@ -268,6 +269,35 @@ fn variables_keep_their_binders() {
 }
 
 #[test]
+fn arguments_are_put_below_binders() {
+    deep(|| {
+        // After some declarations, claims that hold, and claims that are refused 37 at the place.
+        let again = "declare again : {x:(nat -> o) -> o} pf (x [z] x [w] eq z w)";
+        let mixed =
+            "declare mixed : {f:(nat -> nat -> nat) -> nat -> nat} pf (eq (f ([x] [y] s x) z) z)";
+        let cases: [(&str, &str, Option<usize>); 8] = [
+            (again, "pf (all [a] all [b] eq a b)=again [g] all [y] g y", None),
+            (again, "pf (all [a] all [b] eq b b)=again [g] all [y] g y", Some(0)),
+            (again, "pf (all [a] all [b] eq b a)=again [g] all [y] g y", Some(0)),
+            (mixed, "pf (eq (s z) z)=mixed [g] [y] g y y", None),
+            (mixed, "pf (eq z z)=mixed [g] [y] g y y", Some(0)),
+            (mixed, "pf (eq z z)=mixed [g] [y] y", None),
+            ("", "({x:nat} pf (eq x x)) -> {y:nat} pf (eq y y)=[h] [k] h k", None),
+            ("", "({x:nat} pf (eq x z)) -> {y:nat} pf (eq y y)=[h] [k] h k", Some(8)),
+        ];
+        for (declaration, texts, refused) in cases {
+            let mut lines: Vec<String> = WORKED.iter().map(|l| l.to_string()).collect();
+            lines.extend([declaration.to_string(), format!("claim {texts}")]);
+            let reply = last(&lines);
+            match refused {
+                Some(place) => assert_eq!(reply, no("claim", 37, 1, place, 3), "{texts}"),
+                None => assert!(reply.starts_with("claim accepted: work "), "{texts}: {reply}"),
+            }
+        }
+    });
+}
+
+#[test]
 fn a_put_without_a_result_is_counted() {
     let (x, y) = (Binder::fresh(), Binder::fresh());
     let variable = |x| node(0, Form::Headed(Head::Variable(x), Vec::new()));
@@ -277,6 +307,18 @@ fn a_put_without_a_result_is_counted() {
     let with = |budget| put(&m, &base, x, &variable(x), budget);
     assert!(matches!(with(4), Outcome::NoResult(4)));
     assert!(matches!(with(3), Outcome::TooLong));
+    // A head stands at an arrow: the empty spine is 1 node, the lifted head is 2.
+    let nat = || node(0, Form::Headed(Head::Constant(0), Vec::new()));
+    let arrow = shape(&node(0, Form::Product(y, nat(), nat())));
+    assert!(matches!(put(&nat(), &arrow, x, &variable(x), 9), Outcome::NoResult(3)));
+}
+
+#[test]
+fn only_requests_bar_a_store() {
+    let replies = |lines: &[&str]| last(&lines.iter().map(|l| l.to_string()).collect::<Vec<_>>());
+    assert_eq!(replies(&["hello", "% x", "", "store module"]), "store module");
+    assert_eq!(replies(&["table 9", "store module"]), "not a request");
+    assert_eq!(replies(&["store flat", "store module"]), "not a request");
 }
 
 #[test]
