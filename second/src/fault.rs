@@ -2,7 +2,7 @@
 
 /// A fault. The text is 1 for the proof of a claim, else 0. The judgement is 0 for
 /// none, 1 for classifier, 2 for type, 3 for object and 4 for spine.
-#[derive(Clone, Copy, Debug, PartialEq, Eq, PartialOrd, Ord)]
+#[derive(Clone, Copy, Debug, PartialEq, Eq)]
 pub struct Fault {
     pub number: u32,
     pub text: u32,
