@@ -73,15 +73,20 @@ impl Module {
         format!("(record {{ book = {book}; is-sealed = {} }})", session.is_sealed())
     }
 
-    /// The lemmas of one log: what its lines answer, and the states after them.
+    /// The lemmas of one log: what its lines answer, and the states after them. In every second
+    /// line, line feeds stand for the carriage returns: a text may hold them, a log cannot.
     fn log(&mut self, seed: u64, longest: usize) {
         let log = generate::log(seed);
         let mut session = Session::new();
         (self.entries, self.book) = (0, None);
-        for line in lines(&log) {
+        for (i, line) in lines(&log).into_iter().enumerate() {
+            let mut line = line.to_vec();
+            if i % 2 == 1 {
+                line.iter_mut().filter(|byte| **byte == b'\r').for_each(|byte| *byte = b'\n');
+            }
             let before = session.clone();
-            let Some(reply) = session.take(line) else { continue };
-            let (Some(call), Some(answer)) = (call(line, &before), answer(&reply)) else {
+            let Some(reply) = session.take(&line) else { continue };
+            let (Some(call), Some(answer)) = (call(&line, &before), answer(&reply)) else {
                 continue;
             };
             if line.len() > longest {

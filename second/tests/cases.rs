@@ -2,7 +2,7 @@
 
 use second::substitution::{put, shape, Outcome};
 use second::tree::{node, Binder, Form, Head};
-use second::{deep, replay, Reply, Session};
+use second::{deep, replay, Fault, Kind, Library, Reply, Session};
 
 const WORKED: [&str; 8] = [
     "declare nat : type",
@@ -311,6 +311,15 @@ fn a_put_without_a_result_is_counted() {
     let nat = || node(0, Form::Headed(Head::Constant(0), Vec::new()));
     let arrow = shape(&node(0, Form::Product(y, nat(), nat())));
     assert!(matches!(put(&nat(), &arrow, x, &variable(x), 9), Outcome::NoResult(3)));
+}
+
+#[test]
+fn a_comment_ends_at_a_line_feed() {
+    let mut library = Library::new(Kind::Flat);
+    let fault = |number, place| Err(Fault { number, text: 0, place, judgement: 0 });
+    assert_eq!(library.declare(b"nat %\n: %:\n\n%\ntype % (", 99), Ok((0, 1)));
+    assert_eq!(library.declare(b"z % a\n: % b\n -", 99), fault(13, 13));
+    assert_eq!(library.declare(b"z % a\r: nat", 99), fault(15, 11));
 }
 
 #[test]

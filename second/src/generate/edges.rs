@@ -31,7 +31,8 @@ const SMALL: &str = "declare |declare  |declare % only \u{80}\0\u{ff}|declare NE
     claim =z|claim nat=|claim nat % = z|claim nat % a\u{2}b=s z % c=d|claim % nat=z|\
     claim nat=s [x] x|claim o=all [x] eq x [x] x|claim o=all ([x] eq x x)|claim type=nat|\
     claim [x] nat=[x] z|claim type -> type=[x] x|claim nat=type|claim nat=nat|\
-    claim nat=nat -> nat|claim nat -> nat=s|claim nat -> nat=[x] [y] x|claim nat=(s) z";
+    claim nat=nat -> nat|claim nat -> nat=s|claim nat -> nat=[x] [y] x|claim nat=(s) z|\
+    declare NEW % a\r: nat|declare %\rNEW : nat%|claim nat=s % %\r%\rz";
 
 const TOKENS: &str = "{|}|[|]|(|)|:|->|type|nat|z|s|x|y|none|pf|{x:|[x]|{x:nat}|-|% z";
 
