@@ -89,7 +89,7 @@ impl Module {
             let (Some(call), Some(answer)) = (call(&line, &before), answer(&reply)) else {
                 continue;
             };
-            if line.len() > longest {
+            if line.len() > longest && !refused_by_size(&reply) {
                 continue;
             }
             let name = format!("seed-{seed}-line-{}", session.lines_taken());
@@ -106,6 +106,11 @@ impl Module {
             }
         }
     }
+}
+
+/// Whether the answer comes before the texts are read.
+fn refused_by_size(reply: &Reply) -> bool {
+    matches!(reply, Reply::Refused { fault, .. } if [11, 12].contains(&fault.number))
 }
 
 /// The line of a log that a request stands for.
@@ -160,12 +165,12 @@ pub fn cases(count: usize, seed: u64) -> String {
     module.text
 }
 
-/// Lemmas about the lines of the logs of some seeds. A line of more than `longest` bytes has
-/// none, since the prover computes only so much for one lemma.
-pub fn logs(count: u64, first: u64, longest: usize) -> String {
+/// Lemmas about the lines of the logs of some seeds. A line of more than `longest` bytes that has
+/// to be read has none, since the prover computes only so much for one lemma.
+pub fn logs(longest: usize, seeds: &[u64]) -> String {
     let mut module = Module::new(FOR_LOGS);
-    for seed in first..first.saturating_add(count) {
-        module.log(seed, longest);
+    for seed in seeds {
+        module.log(*seed, longest);
     }
     module.text
 }

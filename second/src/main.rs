@@ -10,7 +10,7 @@ const USAGE: &str = "usage: second replay [FILE]
        second generate SEED
        second compare PROGRAM COUNT FIRST [FILE...]
        second lemmas cases COUNT SEED
-       second lemmas logs COUNT FIRST LONGEST";
+       second lemmas logs LONGEST SEED...";
 
 fn number<T: FromStr>(word: &str) -> Result<T, String> {
     word.parse().map_err(|_| USAGE.to_string())
@@ -45,8 +45,9 @@ fn command(words: &[&str]) -> Result<bool, String> {
         ["lemmas", "cases", count, seed] => {
             print(lemmas::cases(number(count)?, number(seed)?).as_bytes())
         }
-        ["lemmas", "logs", count, first, longest] => {
-            print(lemmas::logs(number(count)?, number(first)?, number(longest)?).as_bytes())
+        ["lemmas", "logs", longest, seeds @ ..] => {
+            let seeds: Result<Vec<u64>, String> = seeds.iter().map(|seed| number(seed)).collect();
+            print(lemmas::logs(number(longest)?, &seeds?).as_bytes())
         }
         _ => Err(USAGE.to_string()),
     }

@@ -70,7 +70,12 @@ pub fn reading(w: &mut Writer) {
     for _ in 0..end {
         let line = match w.chance.below(10) {
             0 => names(&mut w.chance),
-            1 => long(&mut w.chance),
+            1 => {
+                // Twice the bytes of one text, or of two, at the longest, and about that.
+                let length = *w.chance.pick(&[8_191, 8_192, 8_193, 16_384, 32_768, 32_768]);
+                w.line(format!("table {length}"));
+                long(&mut w.chance)
+            }
             2 | 3 => nested(&mut w.chance),
             4 | 5 => soup(&mut w.chance),
             6 => {
@@ -82,7 +87,11 @@ pub fn reading(w: &mut Writer) {
             7 => {
                 let mut line = new_line(&mut w.chance, SOUND);
                 let i = 6 + w.chance.below(line.len() - 5);
-                line.insert(i, *w.chance.pick(&ODD));
+                let piece = match w.chance.below(3) {
+                    0 => b"% (\r".to_vec(),
+                    _ => vec![*w.chance.pick(&ODD)],
+                };
+                line.splice(i..i, piece);
                 line
             }
             8 => new_line(&mut w.chance, SMALL),
