@@ -1,4 +1,6 @@
 // Writes the answers to the requests of a log, one line each.
+#![tactic(auto)]
+
 ghost use Rattle.answers.specs.Line.{answer_bytes, fault_bytes};
 ghost use Rattle.answers.specs.Said.{listed, look_up, meaning, refused};
 ghost use Rattle.answers.specs.Words.{reason_bytes};

@@ -1,4 +1,7 @@
 // Replays a log of requests to a library, and prints the answers.
+#![tactic(auto)]
+
+use anyhow::anyhow;
 use std::io::Read;
 use std::{env, fs, io};
 
@@ -16,10 +19,7 @@ fn read_log(rt: &HostRuntime) -> anyhow::Result<Vec<u8>> {
     match args.next() {
         Some(path) => match fs::read(rt, path.as_str()) {
             Ok(log) => Ok(log),
-            Err(error) => {
-                let message = format!(in rt.alloc(); "cannot read {path}: {error}")?;
-                Err(message.into())
-            }
+            Err(error) => Err(anyhow!("cannot read {path}: {error}")),
         },
         None => Ok(read_input(rt)?),
     }

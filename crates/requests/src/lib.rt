@@ -1,4 +1,6 @@
 // Reads the lines of a log of requests.
+#![tactic(auto)]
+
 ghost use Rattle.requests.specs.Asked.{asked, asked_by, asking, kind_named, lone, meaning, request_meaning, requested, verb_named};
 ghost use Rattle.requests.specs.Bytes.{after, before, every};
 ghost use Rattle.requests.specs.Decimal.{read_decimal};

@@ -1,1 +1,2 @@
 // The rules of the checker. They are definitions, in specs/; there is no code here.
+#![tactic(auto)]

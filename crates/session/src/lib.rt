@@ -1,4 +1,6 @@
 // Replays a log of requests to a library, and gives what is printed for it.
+#![tactic(auto)]
+
 ghost use Rattle.requests.specs.Asked.{asked};
 ghost use Rattle.session.specs.Law.{FollowsRules};
 ghost use Rattle.session.specs.Output.{output, printed, tallied};

@@ -1,4 +1,6 @@
 // The worked library: what the rules answer to each line of a log, from its bytes.
+#![tactic(auto)]
+
 ghost use Rattle.std.specs.Prelude.{◌≡◌};
 ghost use Rattle.rules.specs.Log.{run};
 ghost use Rattle.rules.specs.Rule.{flat};

@@ -5,6 +5,6 @@ use Rattle.session.proofs.push_line.Goals as goal
 pub returns : goal.returns
 returns c =
     pushed (string_bytes c.args.out.now) _ _ c.args.line.now _
-    c.in-ok-push-str.ensures.bytes
-    c.in-ok-push.ensures.bytes
+    c.in_ok-push_str.ensures.bytes
+    c.in_ok-push.ensures.bytes
     (c.push.ensures.ascii (lit< tt))

@@ -2,12 +2,12 @@ use Rattle.std.proofs.Common.{◌∙◌}
 use Rattle.session.proofs.Taking.{answered}
 use Rattle.session.proofs.step.Goals as goal
 
-pub returns-in-ok-push-line : goal.returns-in-ok-push-line
-returns-in-ok-push-line c =
+pub returns-in_ok-push_line : goal.returns-in_ok-push_line
+returns-in_ok-push_line c =
     answered _ _ _ _ _ _ _ _ _ _ _
-    c.read-line.ensures
+    c.read_line.ensures
     c.in-Some.ensures.answer
     c.in-Some.ensures.next
     c.note.ensures
-    (c.as-str.ensures.value ∙ c.in-ok-written.ensures)
-    c.in-ok-push-line.ensures
+    (c.as_str.ensures.value ∙ c.in_ok-written.ensures)
+    c.in_ok-push_line.ensures

@@ -3,4 +3,4 @@ use Rattle.worked.proofs.Computed.{worked}
 use Rattle.worked.proofs.figures.Goals as goal
 
 pub returns : goal.returns
-returns c = worked ∙ sym c.listed-figures.ensures
+returns c = worked ∙ sym c.listed_figures.ensures
