@@ -7,30 +7,25 @@ use crate::store::Kind;
 use crate::{generate, vectors};
 
 const FOR_CASES: &str = "\
-use mathlib.Core.Bool.{true, false}
-use mathlib.Core.Path.{_≡_, refl}
-use Rattle·rules.specs.Expression.{con, idx, typ, pi, lam, app, nil, arg, base, arrow, same}
-use Rattle·rules.specs.Substitution.{lift, put, made, lost}
+use Rattle.std.specs.Prelude.{◌≡◌, refl, true, false}
+use Rattle.rules.specs.Expression.{con, idx, typ, pi, lam, app, nil, arg, base, arrow, same}
+use Rattle.rules.specs.Substitution.{lift, put, made, lost}
 ";
 
 const FOR_LOGS: &str = "\
-use mathlib.Core.Bool.{true, false}
-use mathlib.Core.List.{[], _∷_, _++_}
-use mathlib.Core.Path.{_≡_, refl}
-use lib.Chars.{codes}
-use Rattle·std.specs.declared.option.Option.the-variants.{Some, None}
-use Rattle·rules.specs.Book.{Entry, Book}
-use Rattle·rules.specs.Expression.{con, idx, typ, pi, lam, app, nil, arg}
-use Rattle·rules.specs.Log.{declare, claim, count, look-up, ask-rests-on, ask-carries, seal}
-use Rattle·rules.specs.Log.{accepted, proved, counted, found, listed, sealed, refused, barred}
-use Rattle·rules.specs.Log.{reply, next}
-use Rattle·rules.specs.Reading.{expect, head, read-exp, reading, declaring}
-use Rattle·rules.specs.Rule.{flat, modular}
-use Rattle·rules.specs.Token.{next-token}
+use Rattle.std.specs.Prelude.{◌≡◌, refl, true, false, [], ◌∷◌, ◌++◌, codes, Some, None}
+use Rattle.rules.specs.Book.{Entry, Book}
+use Rattle.rules.specs.Expression.{con, idx, typ, pi, lam, app, nil, arg}
+use Rattle.rules.specs.Log.{declare, claim, count, look_up, ask_rests_on, ask_carries, seal}
+use Rattle.rules.specs.Log.{accepted, proved, counted, found, listed, sealed, refused, barred}
+use Rattle.rules.specs.Log.{reply, next}
+use Rattle.rules.specs.Reading.{expect, head, read_exp, reading, declaring}
+use Rattle.rules.specs.Rule.{flat, modular}
+use Rattle.rules.specs.Token.{next_token}
 ";
 
 /// The reading functions, which the prover unfolds only where it is told to.
-const UNFOLDING: &str = "unfolding next-token expect head read-exp reading declaring\n";
+const UNFOLDING: &str = "unfolding next_token expect head read_exp reading declaring\n";
 
 /// A module that is being written.
 struct Module {
@@ -57,7 +52,7 @@ impl Module {
     /// The state of a log, with its book by name.
     fn state(&mut self, seed: u64, session: &Session) -> String {
         let store = session.library().store();
-        let entry = |n| format!("seed-{seed}-entry-{n}");
+        let entry = |n| format!("seed_{seed}_entry_{n}");
         for n in self.entries..store.count() {
             let name = bytes(&store.entry(n).name);
             let classifier = expression(&store.entry(n).classifier, &mut Vec::new());
@@ -65,12 +60,12 @@ impl Module {
             self.value(&entry(n), "Entry", &value);
         }
         self.entries = store.count();
-        let book = format!("seed-{seed}-book-{}", store.count());
+        let book = format!("seed_{seed}_book_{}", store.count());
         if self.book != Some(store.count()) {
             self.value(&book, "Book", &list((0..store.count()).map(entry)));
             self.book = Some(store.count());
         }
-        format!("(record {{ book = {book}; is-sealed = {} }})", session.is_sealed())
+        format!("(record {{ book = {book}; is_sealed = {} }})", session.is_sealed())
     }
 
     /// The lemmas of one log: what its lines answer, and the states after them. In every second
@@ -92,7 +87,7 @@ impl Module {
             if line.len() > longest && !refused_by_size(&reply) {
                 continue;
             }
-            let name = format!("seed-{seed}-line-{}", session.lines_taken());
+            let name = format!("seed_{seed}_line_{}", session.lines_taken());
             let rule = match before.library().store().kind() {
                 Kind::Flat => "flat",
                 Kind::Module => "modular",
@@ -102,7 +97,7 @@ impl Module {
             if matches!(reply, Reply::Declared { .. } | Reply::Sealed) {
                 let after = self.state(seed, &session);
                 let left = format!("next {rule} {state} ({call})");
-                self.lemma(&format!("{name}-next"), &left, &after, UNFOLDING);
+                self.lemma(&format!("{name}_next"), &left, &after, UNFOLDING);
             }
         }
     }
@@ -125,9 +120,9 @@ fn call(line: &[u8], session: &Session) -> Option<String> {
             format!("claim {statement} {proof} {table}")
         }
         b"count" => "count".to_string(),
-        b"look-up" => format!("look-up {}", bytes(operand)),
-        b"rests-on" => format!("ask-rests-on {} {numbers}", decimal(operand, usize::MAX)?),
-        b"carries" => format!("ask-carries {} {numbers}", decimal(operand, usize::MAX)?),
+        b"look-up" => format!("look_up {}", bytes(operand)),
+        b"rests-on" => format!("ask_rests_on {} {numbers}", decimal(operand, usize::MAX)?),
+        b"carries" => format!("ask_carries {} {numbers}", decimal(operand, usize::MAX)?),
         b"seal" => "seal".to_string(),
         _ => return None,
     })
@@ -160,7 +155,7 @@ fn answer(reply: &Reply) -> Option<String> {
 pub fn cases(count: usize, seed: u64) -> String {
     let mut module = Module::new(FOR_CASES);
     for (i, case) in vectors::cases(count, seed).iter().enumerate() {
-        module.lemma(&format!("case-{i}"), &case.call, &case.result, "");
+        module.lemma(&format!("case_{i}"), &case.call, &case.result, "");
     }
     module.text
 }
