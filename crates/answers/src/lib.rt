@@ -96,7 +96,7 @@ fn reason(number: u8) -> &'static str
     }
 }
 
-// `N: look_up 3` or `N: look_up none`.
+// `N: look-up 3` or `N: look-up none`.
 fn look_up_line(heap: Global, number: usize, found: Option<usize>) -> Result<String, AllocError>
     ensures { IfOk result (λ s. string_bytes s ≡ answer_bytes number (look_up found)) }
 {

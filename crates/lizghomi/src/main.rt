@@ -1,9 +1,22 @@
 // Replays a log of requests to a library, and prints the answers.
 #![tactic(auto)]
 
-use anyhow::anyhow;
+use std::alloc::AllocError;
 use std::io::Read;
+use std::process::ExitCode;
 use std::{env, fs, io};
+use thiserror::Error;
+
+// Why the program ends with status 1.
+#[derive(Debug, Drop, Error)]
+enum Failure {
+    #[error("cannot read {0}: {1}")]
+    Unreadable(String, io::Error),
+    #[error(transparent)]
+    Io(#[from] io::Error),
+    #[error(transparent)]
+    Memory(#[from(alloc)] AllocError),
+}
 
 // All of standard input.
 fn read_input(rt: &HostRuntime) -> io::Result<Vec<u8>> {
@@ -13,29 +26,29 @@ fn read_input(rt: &HostRuntime) -> io::Result<Vec<u8>> {
 }
 
 // The log: the file that the first argument names, or standard input.
-fn read_log(rt: &HostRuntime) -> anyhow::Result<Vec<u8>> {
+fn read_log(rt: &HostRuntime) -> Result<Vec<u8>, Failure> {
     let mut args = env::args(rt)?;
     let _program = args.next();
     match args.next() {
         Some(path) => match fs::read(rt, path.as_str()) {
             Ok(log) => Ok(log),
-            Err(error) => Err(anyhow!("cannot read {path}: {error}")),
+            Err(error) => Err(Failure::Unreadable(path, error)),
         },
         None => Ok(read_input(rt)?),
     }
 }
 
-fn run(rt: &HostRuntime) -> anyhow::Result<()> {
+fn run(rt: &HostRuntime) -> Result<(), Failure> {
     let log = read_log(rt)?;
     let output = session::replay(rt.alloc(), log.as_slice())?;
     rt.print(output)?;
     Ok(())
 }
 
-fn main(rt: HostRuntime) -> anyhow::Result<()> {
-    let done = run(&rt);
-    if let Err(error) = &done {
+fn main(rt: HostRuntime) -> io::Result<ExitCode> {
+    if let Err(error) = run(&rt) {
         eprintln!(rt; "lizghomi: {error}")?;
+        return Ok(ExitCode::FAILURE);
     }
-    done
+    Ok(ExitCode::SUCCESS)
 }

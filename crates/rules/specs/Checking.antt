@@ -55,7 +55,7 @@ module _ (sg : Signature) where
     spine (lam m q) g p c = refuse wrong_form 0 spine_judgement
     spine (app h s q) g p c = refuse wrong_form 0 spine_judgement
 
-  -- is-type a g: a is a type in the context g. A spine on a kind that ends at all ends in `type`.
+  -- is_type a g: a is a type in the context g. A spine on a kind that ends at all ends in `type`.
   abbrev pub is_type : Exp → Context → Script
   is_type (typ p) g = refuse wrong_form p type_judgement
   is_type (pi a b p) g = part (is_type a g) (is_type b (a ∷ g))
