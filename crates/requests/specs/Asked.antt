@@ -1,5 +1,5 @@
 -- What a line of a log asks, as a function of its bytes.
-use Rattle.std.specs.Prelude.{ℕ, Bool, cond, ◌||◌, List, [], ◌∷◌, Some, None, Option}
+use Rattle.std.specs.Prelude.{ℕ, cond, ◌||◌, List, [], ◌∷◌, Some, None, Option}
 use Rattle.std.specs.Str.{bytes_eq}
 use Rattle.rules.specs.Token.{is_blank, begins_with}
 use Rattle.requests.specs.Bytes.{every, holds, before, after}

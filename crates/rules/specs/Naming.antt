@@ -1,5 +1,5 @@
 -- What a constant rests on, and what it carries; classifiers by name.
-use Rattle.std.specs.Prelude.{ℕ, zero, suc, Bool, true, false, cond, ◌||◌, List, [], ◌∷◌, ◌++◌, length, ◌==◌}
+use Rattle.std.specs.Prelude.{ℕ, zero, suc, Bool, false, cond, ◌||◌, List, [], ◌∷◌, ◌++◌, length, ◌==◌}
 use Rattle.rules.specs.Expression.{Head, con, idx, Exp, typ, pi, lam, app, nil, arg}
 use Rattle.rules.specs.Stored.{Heads}
 use Rattle.rules.specs.Book.{Book, entry, signature}

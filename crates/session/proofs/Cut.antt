@@ -1,5 +1,5 @@
 -- The first line of a log, and the lines after it.
-use Rattle.std.proofs.Common.{◌≡◌, ℕ, ◌<◌, true, false, cond, eqb, List, [], ◌∷◌, length, refl, ap, zero-le, arith}
+use Rattle.std.proofs.Common.{◌≡◌, ℕ, ◌<◌, true, false, cond, eqb, List, [], ◌∷◌, length, refl, ap, arith}
 use Rattle.requests.specs.Bytes.{before, after}
 use Rattle.session.specs.Lines.{lines, onto}
 
