@@ -1,7 +1,7 @@
 -- One line of a log, taken.
 use Rattle.std.proofs.Common.{◌≡◌, ℕ, ◌+◌, ◌<◌, List, [], ◌∷◌, ◌++◌, length, Some, refl, ◌∙◌, append_assoc, arith}
 use Rattle.requests.specs.Asked.{Asked, asked}
-use Rattle.requests.specs.Bytes.{before, after as after_Line}
+use Rattle.requests.specs.Bytes.{before, after as after_line}
 use Rattle.answers.specs.Said.{Said}
 use Rattle.answers.specs.Line.{answer_bytes}
 use Rattle.session.specs.declared.totals.Tally.{Tally}
@@ -23,7 +23,7 @@ pub answered : (s s' : Session) (q x : Asked) (t t' : Tally) (a : Said) (n : ℕ
 answered s s' q x t t' a n o o' w asks answers next notes written pushed = rw (← asks, ← answers) (next, notes, rw (pushed, written) refl)
 
 -- after a line, what is printed and what is still to be printed are what they were
-pub printed_on : (n : ℕ) (s s' : Session) (t t' : Tally) (xs line rest o o' whole : List ℕ) → 0 < length xs → line ≡ before 10 xs → rest ≡ after_Line 10 xs →
+pub printed_on : (n : ℕ) (s s' : Session) (t t' : Tally) (xs line rest o o' whole : List ℕ) → 0 < length xs → line ≡ before 10 xs → rest ≡ after_line 10 xs →
     (s' ≡ after s (asked line)) × (t' ≡ tallied t (answer_to s (asked line))) × (o' ≡ o ++ printed n (answer_to s (asked line))) →
     o ++ output_from n s t (lines xs) ≡ whole → o' ++ output_from (n + 1) s' t' (lines rest) ≡ whole
 printed_on n s s' t t' xs line rest o o' whole some first second step so_far =
