@@ -3,6 +3,7 @@ use Rattle.std.specs.Prelude.{◌≡◌, List, [], ◌∷◌, map, ℕ, codes}
 use Rattle.rules.specs.Log.{Line, declare, claim, ask_rests_on, ask_carries, Reply, accepted, proved, listed, refused, run}
 use Rattle.rules.specs.Refusal.{refusal}
 use Rattle.rules.specs.Rule.{flat}
+use Rattle.refusals.specs.Refusal.{meaning}
 use Rattle.worked.specs.declared.Figure.{Figure}
 use Rattle.worked.specs.declared.Figure.TheVariants.{Declared, Claimed, Refused, Listed}
 
@@ -65,9 +66,8 @@ Worked = run flat lines ≡ answers
 abbrev pub reply_of : Figure → Reply
 reply_of (Declared constant work) = accepted constant work
 reply_of (Claimed work) = proved work
-reply_of (Refused layer number text place judgement) =
-    refused (record { layer = layer; number = number; text = text; place = place; judgement = judgement })
-reply_of (Listed numbers) = listed numbers
+reply_of (Refused refusal) = refused (meaning refusal)
+reply_of (Listed numbers) = listed numbers.now
 
 abbrev pub replies : List Figure → List Reply
 replies figures = map reply_of figures

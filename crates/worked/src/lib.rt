@@ -6,24 +6,15 @@ ghost use Rattle.rules.specs.Log.{run};
 ghost use Rattle.rules.specs.Rule.{flat};
 ghost use Rattle.worked.specs.Worked.{answers, lines, replies};
 
+use refusals::{Judgement, Refusal, Text};
+
 // The answer to a line.
-#[derive(Clone, Copy)]
+#[derive(Clone, Copy, Debug, PartialEq, Eq)]
 pub enum Figure {
-    Declared {
-        constant: u32,
-        work: u32,
-    },
-    Claimed {
-        work: u32,
-    },
-    Refused {
-        layer: u8,
-        number: u8,
-        text: u8,
-        place: u32,
-        judgement: u8,
-    },
-    Listed([u32; 5]),
+    Declared { constant: u32, work: u32 },
+    Claimed { work: u32 },
+    Refused(Refusal),
+    Listed(&'static [u32]),
 }
 
 use Figure::{Claimed, Declared, Listed, Refused};
@@ -66,71 +57,44 @@ fn listed_figures() -> [Figure; 20]
             work: 71,
         },
         Claimed { work: 270 },
-        Refused {
-            layer: 3,
-            number: 39,
-            text: 1,
+        Refused(Refusal::NoRoom {
+            text: Text::Proof,
             place: 24,
-            judgement: 4,
-        },
-        Refused {
-            layer: 3,
-            number: 37,
-            text: 1,
+            judgement: Judgement::Spine,
+        }),
+        Refused(Refusal::Unequal {
+            text: Text::Proof,
             place: 4,
-            judgement: 3,
-        },
-        Refused {
-            layer: 3,
-            number: 33,
-            text: 0,
+        }),
+        Refused(Refusal::HeadAtProduct {
+            text: Text::First,
             place: 25,
-            judgement: 3,
-        },
-        Refused {
-            layer: 3,
-            number: 34,
-            text: 0,
+        }),
+        Refused(Refusal::LamAtNoProduct {
+            text: Text::First,
             place: 8,
-            judgement: 3,
-        },
-        Refused {
-            layer: 3,
-            number: 35,
-            text: 0,
+        }),
+        Refused(Refusal::TooFew {
+            text: Text::First,
             place: 8,
-            judgement: 4,
-        },
-        Refused {
-            layer: 3,
-            number: 36,
-            text: 0,
+        }),
+        Refused(Refusal::TooMany {
+            text: Text::First,
             place: 8,
-            judgement: 4,
-        },
-        Refused {
-            layer: 3,
-            number: 32,
-            text: 0,
+        }),
+        Refused(Refusal::WrongHead {
+            text: Text::First,
             place: 4,
-            judgement: 2,
-        },
-        Refused {
-            layer: 3,
-            number: 31,
-            text: 0,
+            judgement: Judgement::Type,
+        }),
+        Refused(Refusal::WrongForm {
+            text: Text::First,
             place: 4,
-            judgement: 2,
-        },
-        Refused {
-            layer: 4,
-            number: 42,
-            text: 0,
-            place: 0,
-            judgement: 0,
-        },
-        Listed([0, 3, 5, 6, 7]),
-        Listed([3, 4, 5, 6, 7]),
+            judgement: Judgement::Type,
+        }),
+        Refused(Refusal::NameTaken { place: 0 }),
+        Listed(&[0, 3, 5, 6, 7]),
+        Listed(&[3, 4, 5, 6, 7]),
     ]
 }
 
