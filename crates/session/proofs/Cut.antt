@@ -1,5 +1,5 @@
 -- The first line of a log, and the lines after it.
-use Rattle.std.proofs.Common.{◌≡◌, ℕ, ◌<◌, true, false, cond, eqb, List, [], ◌∷◌, length, refl, ap, arith}
+use Rattle.std.proofs.Common.{◌≡◌, ℕ, ◌+◌, ◌<◌, ◌≤◌, true, false, cond, eqb, List, [], ◌∷◌, length, refl, ap, arith}
 use Rattle.requests.specs.Bytes.{before, after}
 use Rattle.session.specs.Lines.{lines, onto}
 
@@ -15,13 +15,11 @@ pub lines_cut : (xs : List ℕ) → 0 < length xs → lines xs ≡ before 10 xs 
 lines_cut [] h = absurd (omega arith)
 lines_cut (x ∷ xs) h = cut x xs
 
--- what is left is shorter
-shorter : (x : ℕ) (xs : List ℕ) → length (after 10 (x ∷ xs)) < length (x ∷ xs)
-shorter x [] = elim (eqb x 10) as (λ b. length {A = ℕ} (cond b [] []) < 1) [ true ↦ omega arith | false ↦ omega arith ]
-shorter x (y ∷ ys) =
-    let ih = shorter y ys in
-    elim (eqb x 10) as (λ b. length (cond b (y ∷ ys) (after 10 (y ∷ ys))) < length (x ∷ y ∷ ys)) [ true ↦ omega arith | false ↦ omega arith ]
+-- there are no more lines than bytes
+length-onto-le : (x : ℕ) (ls : List (List ℕ)) → length (onto x ls) ≤ length ls + 1
+length-onto-le x [] = omega arith
+length-onto-le x (l ∷ ls) = omega arith
 
-pub after_shorter : (xs : List ℕ) → 0 < length xs → length (after 10 xs) < length xs
-after_shorter [] h = absurd (omega arith)
-after_shorter (x ∷ xs) h = shorter x xs
+pub length-lines-le : (xs : List ℕ) → length (lines xs) ≤ length xs
+length-lines-le [] = omega arith
+length-lines-le (x ∷ xs) = grind (arith, length-lines-le xs, length-onto-le x (lines xs))

@@ -1,3 +1,2 @@
 mod Cut
 mod Following
-mod Taking

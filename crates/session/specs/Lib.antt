@@ -3,3 +3,4 @@ pub mod Lines
 pub mod Output
 pub mod Session
 pub mod Tallies
+pub mod Transcript
