@@ -1,20 +1,14 @@
 -- The line that answers a request, as bytes, without its line feed.
 use Rattle.std.specs.Prelude.{ℕ, List, ◌++◌, length, Some, None, codes, decimal, Option}
-use Rattle.answers.specs.declared.Fault.{Fault}
 use Rattle.answers.specs.Said.{Said, store, table, numbers, declared, claimed, count, look_up, listed, sealed, refused, not_served, barred, no_request}
 use Rattle.requests.specs.Words.{kind_bytes, verb_bytes}
-use Rattle.answers.specs.Words.{reason_bytes, spaced}
+use Rattle.refusals.specs.Fault.{fault_bytes}
+use Rattle.answers.specs.Words.{spaced}
 
 -- a constant's number, or that there is none
 abbrev pub found_bytes : Option ℕ → List ℕ
 found_bytes None = codes "none"
 found_bytes (Some n) = decimal n
-
--- a refusal's number, layer, text, place and judgement, and the reason in words
-abbrev pub fault_bytes : Fault → List ℕ
-fault_bytes f =
-    decimal f.number ++ (codes " layer " ++ (decimal f.layer ++ (codes " text " ++ (decimal f.text
-    ++ (codes " place " ++ (decimal f.place ++ (codes " judgement " ++ (decimal f.judgement ++ (codes " - " ++ reason_bytes f.number)))))))))
 
 -- what is said after the line's number
 abbrev pub said_bytes : Said → List ℕ

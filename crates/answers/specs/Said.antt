@@ -2,7 +2,7 @@
 use Rattle.std.specs.Prelude.{ℕ, List, Option}
 use Rattle.requests.specs.declared.StoreKind.{StoreKind}
 use Rattle.requests.specs.declared.Verb.{Verb}
-use Rattle.answers.specs.declared.Fault.{Fault}
+use Rattle.refusals.specs.declared.Fault.{Fault}
 use Rattle.answers.specs.declared.Answer.{Answer}
 use Rattle.answers.specs.declared.Answer.TheVariants.{Store, Table, Numbers, Declared, Claimed, Count, LookUp, Listed, Sealed, Refused, NotServed, Barred, NoRequest}
 

@@ -27,13 +27,10 @@ fn read_input(rt: &HostRuntime) -> io::Result<Vec<u8>> {
 
 // The log: the file that the first argument names, or standard input.
 fn read_log(rt: &HostRuntime) -> Result<Vec<u8>, Failure> {
-    let mut args = env::args(rt)?;
-    let _program = args.next();
-    match args.next() {
-        Some(path) => match fs::read(rt, path.as_str()) {
-            Ok(log) => Ok(log),
-            Err(error) => Err(Failure::Unreadable(path, error)),
-        },
+    match env::args(rt)?.nth(1) {
+        Some(path) => {
+            fs::read(rt, path.as_str()).map_err(|error| Failure::Unreadable(path, error))
+        }
         None => Ok(read_input(rt)?),
     }
 }

@@ -1,8 +1,9 @@
 -- What a line of a log asks, as a function of its bytes.
-use Rattle.std.specs.Prelude.{ℕ, cond, ◌||◌, List, [], ◌∷◌, Some, None, Option}
+use Rattle.std.specs.Prelude.{ℕ, cond, ◌||◌, List, [], ◌∷◌, Some, None, Option, Ok, Err, Result}
+use Rattle.std.specs.List.{list_all}
 use Rattle.std.specs.Str.{bytes_eq}
 use Rattle.rules.specs.Token.{is_blank, begins_with}
-use Rattle.requests.specs.Bytes.{every, holds, before, after}
+use Rattle.requests.specs.Bytes.{holds, before, after}
 use Rattle.requests.specs.Decimal.{read_decimal}
 use Rattle.requests.specs.Words.{kind_bytes, verb_bytes}
 use Rattle.requests.specs.declared.StoreKind.{StoreKind}
@@ -11,8 +12,7 @@ use Rattle.requests.specs.declared.Request.{Request}
 use Rattle.requests.specs.declared.Request.TheVariants.{Store, Table, Numbers, Declare, Claim, Count, LookUp, RestsOn, Carries, Seal}
 use Rattle.requests.specs.declared.Verb.{Verb}
 use Rattle.requests.specs.declared.Verb.TheVariants as verb
-use Rattle.requests.specs.declared.Line.{Line}
-use Rattle.requests.specs.declared.Line.TheVariants.{Passed, Unknown, Asks}
+use Rattle.requests.specs.declared.NoRequest.{NoRequest}
 
 -- a line is passed over, is no request, or is one of the ten requests with its operand
 pub data Asked : Type 0 where
@@ -78,7 +78,7 @@ requested line = with (λ v. asked_by v (after 32 line)) (verb_named (before 32 
 
 -- what a line asks: nothing where it is blank or begins with '%'
 abbrev pub asked : List ℕ → Asked
-asked line = cond (every is_blank line || begins_with 37 line) passed (requested line)
+asked line = cond (list_all is_blank line || begins_with 37 line) passed (requested line)
 
 -- what the code's request says, with what its slices hold
 abbrev pub request_meaning : Request → Asked
@@ -94,12 +94,17 @@ request_meaning (Carries n) = carries n
 request_meaning Seal = seal
 
 -- what the code's answer of a request or none says
-abbrev pub asking : Option Request → Asked
-asking None = unknown
-asking (Some r) = request_meaning r
+abbrev pub asking : Result Request NoRequest → Asked
+asking (Err e) = unknown
+asking (Ok r) = request_meaning r
 
 -- what the code's line says
-abbrev pub meaning : Line → Asked
-meaning Passed = passed
-meaning Unknown = unknown
-meaning (Asks r) = request_meaning r
+abbrev pub meaning : Result (Option Request) NoRequest → Asked
+meaning (Err e) = unknown
+meaning (Ok None) = passed
+meaning (Ok (Some r)) = request_meaning r
+
+-- a value that may be missing, as the code answers it
+abbrev pub or_no_request : {X : Type 0} → Option X → Result X NoRequest
+or_no_request None = Err (record {})
+or_no_request (Some x) = Ok x

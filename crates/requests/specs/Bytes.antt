@@ -1,10 +1,5 @@
 -- Lists of bytes: the first of some byte, and the parts on its two sides.
-use Rattle.std.specs.Prelude.{ℕ, Bool, true, false, cond, ◌&&◌, ◌||◌, List, [], ◌∷◌, ◌==◌}
-
--- each byte passes the test
-abbrev pub every : (ℕ → Bool) → List ℕ → Bool
-every test [] = true
-every test (x ∷ xs) = test x && every test xs
+use Rattle.std.specs.Prelude.{ℕ, Bool, false, cond, ◌||◌, List, [], ◌∷◌, ◌==◌}
 
 -- some byte is b
 abbrev pub holds : ℕ → List ℕ → Bool

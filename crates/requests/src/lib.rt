@@ -1,30 +1,36 @@
 // Reads the lines of a log of requests.
 #![tactic(auto)]
 
-ghost use Rattle.requests.specs.Asked.{asked, asked_by, asking, kind_named, lone, meaning, request_meaning, requested, verb_named};
-ghost use Rattle.requests.specs.Bytes.{after, before, every};
-ghost use Rattle.requests.specs.Decimal.{read_decimal};
+ghost use Rattle.requests.specs.Asked.{asked, asked_by, asking, kind_named, lone, meaning, or_no_request, request_meaning, requested, verb_named};
+ghost use Rattle.requests.specs.Bytes.{after, before};
+ghost use Rattle.requests.specs.Decimal.{is_digit, read_decimal};
 ghost use Rattle.requests.specs.Parts.{Divided};
+ghost use Rattle.requests.specs.Words.{kind_bytes, verb_bytes};
 ghost use Rattle.rules.specs.Token.{begins_with, is_blank};
-ghost use Rattle.std.specs.Str.{bytes_eq};
-ghost use Rattle.std.specs.Prelude.{◌≡◌};
+ghost use Rattle.std.specs.List.{list_all};
+ghost use Rattle.std.specs.Prelude.{◌≡◌, ◌==◌, codes, position, Some};
+
+use std::error::Error;
+use std::{fmt, str};
 
 // Where the constants of a library are kept.
-#[derive(Clone, Copy)]
+#[derive(Clone, Copy, Debug, PartialEq, Eq)]
 pub enum StoreKind {
     Flat,
     Module,
 }
 
 // What a line asks of the library, with its operand.
-#[derive(Clone, Copy)]
+#[derive(Clone, Copy, Debug, PartialEq, Eq)]
 pub enum Request<'a> {
     Store(StoreKind),
     Table(usize),
     Numbers(usize),
     Declare(&'a [u8]),
-    // A statement and its proof.
-    Claim(&'a [u8], &'a [u8]),
+    Claim {
+        statement: &'a [u8],
+        proof: &'a [u8],
+    },
     Count,
     LookUp(&'a [u8]),
     RestsOn(usize),
@@ -33,7 +39,7 @@ pub enum Request<'a> {
 }
 
 // The word that a request begins with.
-#[derive(Clone, Copy)]
+#[derive(Clone, Copy, Debug, PartialEq, Eq)]
 pub enum Verb {
     Store,
     Table,
@@ -47,13 +53,9 @@ pub enum Verb {
     Seal,
 }
 
-// A line of a log: passed over, no request, or a request.
-#[derive(Clone, Copy)]
-pub enum Line<'a> {
-    Passed,
-    Unknown,
-    Asks(Request<'a>),
-}
+// A line that is not passed over makes no request: its word is no verb, or its operand is unfit.
+#[derive(Clone, Copy, Debug, PartialEq, Eq)]
+pub struct NoRequest;
 
 // The work table and the number table have at most so many places.
 const LONGEST_TABLE: usize = 65536;
@@ -64,6 +66,82 @@ const LAST_CONSTANT: usize = 65535;
 // A decimal has at most so many digits.
 const MOST_DIGITS: usize = 9;
 
+impl TryFrom<&[u8]> for StoreKind {
+    type Error = NoRequest;
+
+    ghost try_from_gives = { λ name r. r ≡ or_no_request (kind_named name.now) };
+
+    fn try_from(name: &[u8]) -> Result<StoreKind, NoRequest> {
+        match name {
+            b"flat" => Ok(StoreKind::Flat),
+            b"module" => Ok(StoreKind::Module),
+            _ => Err(NoRequest),
+        }
+    }
+}
+
+impl fmt::Display for StoreKind {
+    ghost output = { λ kind. Some (kind_bytes kind) };
+
+    fn fmt<W: fmt::Write>(&self, f: &mut fmt::Formatter<W>) -> fmt::Result {
+        f.write_str(match self {
+            StoreKind::Flat => "flat",
+            StoreKind::Module => "module",
+        })
+    }
+}
+
+impl TryFrom<&[u8]> for Verb {
+    type Error = NoRequest;
+
+    ghost try_from_gives = { λ word r. r ≡ or_no_request (verb_named word.now) };
+
+    fn try_from(word: &[u8]) -> Result<Verb, NoRequest> {
+        match word {
+            b"store" => Ok(Verb::Store),
+            b"table" => Ok(Verb::Table),
+            b"numbers" => Ok(Verb::Numbers),
+            b"declare" => Ok(Verb::Declare),
+            b"claim" => Ok(Verb::Claim),
+            b"count" => Ok(Verb::Count),
+            b"look-up" => Ok(Verb::LookUp),
+            b"rests-on" => Ok(Verb::RestsOn),
+            b"carries" => Ok(Verb::Carries),
+            b"seal" => Ok(Verb::Seal),
+            _ => Err(NoRequest),
+        }
+    }
+}
+
+impl fmt::Display for Verb {
+    ghost output = { λ verb. Some (verb_bytes verb) };
+
+    fn fmt<W: fmt::Write>(&self, f: &mut fmt::Formatter<W>) -> fmt::Result {
+        f.write_str(match self {
+            Verb::Store => "store",
+            Verb::Table => "table",
+            Verb::Numbers => "numbers",
+            Verb::Declare => "declare",
+            Verb::Claim => "claim",
+            Verb::Count => "count",
+            Verb::LookUp => "look-up",
+            Verb::RestsOn => "rests-on",
+            Verb::Carries => "carries",
+            Verb::Seal => "seal",
+        })
+    }
+}
+
+impl fmt::Display for NoRequest {
+    ghost output = { λ _. Some (codes "not a request") };
+
+    fn fmt<W: fmt::Write>(&self, f: &mut fmt::Formatter<W>) -> fmt::Result {
+        f.write_str("not a request")
+    }
+}
+
+impl Error for NoRequest {}
+
 // A tab, a line feed, a carriage return or a space.
 fn is_blank(byte: u8) -> bool
     ensures { result ≡ is_blank byte }
@@ -73,39 +151,30 @@ fn is_blank(byte: u8) -> bool
 
 // Nothing but blanks: the empty line too.
 fn is_blank_line(line: &[u8]) -> bool
-    ensures { result ≡ every is_blank line.now }
+    ensures { result ≡ list_all is_blank line.now }
 {
-    for byte in line {
-        if !is_blank(*byte) {
-            return false;
-        }
-    }
-    true
+    line.iter().all(|byte| is_blank(*byte))
 }
 
 fn is_comment(line: &[u8]) -> bool
     ensures { result ≡ begins_with 37 line.now }
 {
-    matches!(line, [b'%', ..])
+    line.starts_with(b"%")
 }
 
-// The bytes are those of the word.
-fn is_word(bytes: &[u8], word: &[u8]) -> bool
-    ensures { result ≡ bytes_eq bytes.now word.now }
+// The place of the first `byte`.
+fn place_of(bytes: &[u8], byte: u8) -> Option<usize>
+    ensures { result ≡ position (λ x. x == byte) bytes.now }
 {
-    bytes == word
+    bytes.iter().position(|x| *x == byte)
 }
 
 // The parts of `bytes` before the first `byte` and after it, if it is there.
-fn divide<'a>(bytes: &'a [u8], byte: u8) -> Option<(&'a [u8], &'a [u8])>
+fn divide(bytes: &[u8], byte: u8) -> Option<(&[u8], &[u8])>
     ensures { Divided byte bytes.now result }
 {
-    for (i, x) in bytes.iter().enumerate() {
-        if *x == byte {
-            return Some((&bytes[0..i], &bytes[i + 1..]));
-        }
-    }
-    None
+    let i = place_of(bytes, byte)?;
+    Some((&bytes[..i], &bytes[i + 1..]))
 }
 
 // The parts of `bytes` before the first `byte` and after it; all and nothing where there is none.
@@ -113,134 +182,80 @@ fn split(bytes: &[u8], byte: u8) -> (&[u8], &[u8])
     ensures front { result.0.now ≡ before byte bytes.now }
     ensures back { result.1.now ≡ after byte bytes.now }
 {
-    match divide(bytes, byte) {
-        Some(parts) => parts,
-        None => (bytes, &[]),
-    }
+    divide(bytes, byte).unwrap_or((bytes, &[]))
+}
+
+// Nothing but digits.
+fn is_digits(bytes: &[u8]) -> bool
+    ensures { result ≡ list_all is_digit bytes.now }
+{
+    bytes.iter().all(u8::is_ascii_digit)
 }
 
 // The number that `bytes` write in digits, if they are a decimal and it is at most `most`.
-fn decimal_of(bytes: &[u8], most: usize) -> Option<usize>
-    ensures { result ≡ read_decimal bytes.now most }
+fn decimal_of(bytes: &[u8], most: usize) -> Result<usize, NoRequest>
+    ensures { result ≡ or_no_request (read_decimal bytes.now most) }
 {
-    if bytes.is_empty() || bytes.len() > MOST_DIGITS {
-        return None;
+    if bytes.is_empty() || bytes.len() > MOST_DIGITS || !is_digits(bytes) {
+        return Err(NoRequest);
     }
-    let mut number: usize = 0;
-    for byte in bytes {
-        if !byte.is_ascii_digit() {
-            return None;
-        }
-        number = 10 * number + (*byte - b'0') as usize;
-    }
+    // Digits are UTF-8, and so few of them are a number that fits.
+    let number = str::from_utf8(bytes).unwrap().parse().unwrap();
     if number > most {
-        return None;
+        return Err(NoRequest);
     }
-    Some(number)
-}
-
-// The kind of store that `name` names.
-fn store_kind(name: &[u8]) -> Option<StoreKind>
-    ensures { result ≡ kind_named name.now }
-{
-    if is_word(name, b"flat") {
-        return Some(StoreKind::Flat);
-    }
-    if is_word(name, b"module") {
-        return Some(StoreKind::Module);
-    }
-    None
+    Ok(number)
 }
 
 // The request, if it stands with no operand.
-fn alone<'a>(operand: &[u8], request: Request<'a>) -> Option<Request<'a>>
+fn alone<'a>(operand: &[u8], request: Request<'a>) -> Result<Request<'a>, NoRequest>
     ensures { asking result ≡ lone (request_meaning request.entry) operand.now }
 {
     if operand.is_empty() {
-        Some(request)
+        Ok(request)
     } else {
-        None
+        Err(NoRequest)
     }
-}
-
-// The verb that a word spells.
-fn verb_of(word: &[u8]) -> Option<Verb>
-    ensures { result ≡ verb_named word.now }
-{
-    if is_word(word, b"store") {
-        return Some(Verb::Store);
-    }
-    if is_word(word, b"table") {
-        return Some(Verb::Table);
-    }
-    if is_word(word, b"numbers") {
-        return Some(Verb::Numbers);
-    }
-    if is_word(word, b"declare") {
-        return Some(Verb::Declare);
-    }
-    if is_word(word, b"claim") {
-        return Some(Verb::Claim);
-    }
-    if is_word(word, b"count") {
-        return Some(Verb::Count);
-    }
-    if is_word(word, b"look-up") {
-        return Some(Verb::LookUp);
-    }
-    if is_word(word, b"rests-on") {
-        return Some(Verb::RestsOn);
-    }
-    if is_word(word, b"carries") {
-        return Some(Verb::Carries);
-    }
-    if is_word(word, b"seal") {
-        return Some(Verb::Seal);
-    }
-    None
 }
 
 // The request that a verb makes with its operand, if it makes one.
-fn request_of(verb: Verb, operand: &[u8]) -> Option<Request<'_>>
+fn request_of(verb: Verb, operand: &[u8]) -> Result<Request<'_>, NoRequest>
     ensures { asking result ≡ asked_by verb operand.now }
 {
-    match verb {
-        Verb::Store => Some(Request::Store(store_kind(operand)?)),
-        Verb::Table => Some(Request::Table(decimal_of(operand, LONGEST_TABLE)?)),
-        Verb::Numbers => Some(Request::Numbers(decimal_of(operand, LONGEST_TABLE)?)),
-        Verb::Declare => Some(Request::Declare(operand)),
+    Ok(match verb {
+        Verb::Store => Request::Store(StoreKind::try_from(operand)?),
+        Verb::Table => Request::Table(decimal_of(operand, LONGEST_TABLE)?),
+        Verb::Numbers => Request::Numbers(decimal_of(operand, LONGEST_TABLE)?),
+        Verb::Declare => Request::Declare(operand),
         Verb::Claim => {
-            let (statement, proof) = divide(operand, b'=')?;
-            Some(Request::Claim(statement, proof))
+            let (statement, proof) = divide(operand, b'=').ok_or(NoRequest)?;
+            Request::Claim { statement, proof }
         }
-        Verb::Count => alone(operand, Request::Count),
-        Verb::LookUp => Some(Request::LookUp(operand)),
-        Verb::RestsOn => Some(Request::RestsOn(decimal_of(operand, LAST_CONSTANT)?)),
-        Verb::Carries => Some(Request::Carries(decimal_of(operand, LAST_CONSTANT)?)),
-        Verb::Seal => alone(operand, Request::Seal),
-    }
+        Verb::Count => alone(operand, Request::Count)?,
+        Verb::LookUp => Request::LookUp(operand),
+        Verb::RestsOn => Request::RestsOn(decimal_of(operand, LAST_CONSTANT)?),
+        Verb::Carries => Request::Carries(decimal_of(operand, LAST_CONSTANT)?),
+        Verb::Seal => alone(operand, Request::Seal)?,
+    })
 }
 
 // The request that a line makes, if it makes one: its word ends before the first space, and its
 // operand begins after it.
-fn read_request(line: &[u8]) -> Option<Request<'_>>
+fn read_request(line: &[u8]) -> Result<Request<'_>, NoRequest>
     ensures { asking result ≡ requested line.now }
 {
     let (word, operand) = split(line, b' ');
-    request_of(verb_of(word)?, operand)
+    request_of(Verb::try_from(word)?, operand)
 }
 
-// What a line of a log asks.
-pub fn read_line(line: &[u8]) -> Line<'_>
+// What a line of a log asks: nothing where it is passed over.
+pub fn read_line(line: &[u8]) -> Result<Option<Request<'_>>, NoRequest>
     ensures { meaning result ≡ asked line.now }
 {
     if is_blank_line(line) || is_comment(line) {
-        return Line::Passed;
+        return Ok(None);
     }
-    match read_request(line) {
-        Some(request) => Line::Asks(request),
-        None => Line::Unknown,
-    }
+    read_request(line).map(Some)
 }
 
 // The first line of a log, and what follows its line feed.

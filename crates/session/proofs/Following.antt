@@ -10,7 +10,7 @@ use Rattle.requests.specs.declared.Verb.TheVariants.{Declare, Claim, Count, Look
 use Rattle.requests.specs.Asked.{Asked, asked, passed, unknown, store, table, numbers, declare, claim, count, look_up, rests_on, carries, seal}
 use Rattle.answers.specs.Said.{Said, not_served}
 use Rattle.session.specs.declared.state.Session.{Session}
-use Rattle.session.specs.Session.{state_of, rule_of, served, said_of, answer_to, session, after, start}
+use Rattle.session.specs.Session.{kind_of, state_of, rule_of, served, said_of, answer_to, session, after, start}
 use Rattle.session.specs.Law.{Call, call, call_of, is_served, add_if, calls, answers, spoken, FollowsRules}
 use Rattle.session.specs.Lines.{lines}
 
@@ -61,16 +61,16 @@ stays_empty r s log.seal e = refl
 -- a call that is served, and the lines after it
 one_call : (r : Rule) (s : Session) (v : Verb) (l : log.Line) (ys : List Said) (cs : List Call) → served (state_of s) l ≡ true →
     ys ≡ spoken cs (log.run_from r (empty (sealed_by s.sealed l)) (map (λ c. c.line) cs)) →
-    said_of v (log.reply (rule_of s.kind) (state_of s) l) ∷ ys
+    said_of v (log.reply (rule_of (kind_of s)) (state_of s) l) ∷ ys
     ≡ said_of v (log.reply r (state_of s) l) ∷ spoken cs (log.run_from r (log.next r (state_of s) l) (map (λ c. c.line) cs))
 one_call r s v l ys cs e rest =
-    ap (λ x. said_of v x ∷ ys) (any_rule (rule_of s.kind) r s.sealed l e)
+    ap (λ x. said_of v x ∷ ys) (any_rule (rule_of (kind_of s)) r s.sealed l e)
     ∙ ap (λ xs. said_of v (log.reply r (state_of s) l) ∷ xs) (rest ∙ ap (λ st. spoken cs (log.run_from r st (map (λ c. c.line) cs))) (sym (stays_empty r s.sealed l e)))
 
 -- a call that may not be served
 maybe_call : (r : Rule) (s : Session) (v : Verb) (l : log.Line) (ys : List Said) (cs : List Call) → sealed_by s.sealed l ≡ s.sealed →
     ys ≡ spoken cs (log.run_from r (state_of s) (map (λ c. c.line) cs)) → (b : Bool) → served (state_of s) l ≡ b →
-    add_if b (Some (cond b (said_of v (log.reply (rule_of s.kind) (state_of s) l)) (not_served v))) ys
+    add_if b (Some (cond b (said_of v (log.reply (rule_of (kind_of s)) (state_of s) l)) (not_served v))) ys
     ≡ spoken (add_if b (call v l) cs) (log.run_from r (state_of s) (map (λ c. c.line) (add_if b (call v l) cs)))
 maybe_call r s v l ys cs same rest true e = one_call r s v l ys cs e (rw same rest)
 maybe_call r s v l ys cs same rest false e = rest
@@ -78,7 +78,7 @@ maybe_call r s v l ys cs same rest false e = rest
 -- the choice of a store leaves the library as it is
 store_keeps : (s : Session) (k : StoreKind) → state_of (after s (store k)) ≡ state_of s
 store_keeps s k =
-    elim s.begun as (λ b. state_of (cond b s (session true s.sealed k s.table s.numbers)) ≡ state_of s) [ true ↦ refl | false ↦ refl ]
+    elim (is_some s.store) as (λ b. state_of (cond b s (session (Some k) s.sealed s.table s.numbers)) ≡ state_of s) [ true ↦ refl | false ↦ refl ]
 
 -- one line, and the lines after it
 one_line : (r : Rule) (s : Session) (q : Asked) (ys : List Said) (cs : List Call) → ys ≡ spoken cs (log.run_from r (state_of (after s q)) (map (λ c. c.line) cs)) →

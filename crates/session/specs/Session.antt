@@ -1,5 +1,7 @@
 -- What the program answers to each line of a log: what the rules answer, as far as it is served.
-use Rattle.std.specs.Prelude.{ℕ, Bool, true, false, cond, ◌||◌, [], is_some, Some, None, Option}
+use Rattle.std.specs.Prelude.{ℕ, Bool, true, false, cond, ◌||◌, [], is_some, Some, None, Option, Ok, Err, Result}
+use Rattle.std.specs.Option.{unwrap_or}
+use Rattle.std.specs.Bool.{⊤}
 use Rattle.rules.specs.Refusal.{Refusal, declare_limits, claim_limits}
 use Rattle.rules.specs.Rule.{Rule, flat, modular}
 use Rattle.rules.specs.Log as log
@@ -8,14 +10,31 @@ use Rattle.requests.specs.declared.StoreKind.TheVariants.{Flat, Module}
 use Rattle.requests.specs.Asked.{Asked, passed, unknown, store, table, numbers, declare, claim, count, look_up, rests_on, carries, seal}
 use Rattle.requests.specs.declared.Verb.{Verb}
 use Rattle.requests.specs.declared.Verb.TheVariants.{Declare, Claim, Count, LookUp, RestsOn, Carries, Seal}
-use Rattle.answers.specs.declared.Fault.{Fault}
+use Rattle.refusals.specs.declared.Refusal as code
+use Rattle.refusals.specs.Refusal.{meaning}
+use Rattle.refusals.specs.Fault.{fault_of}
 use Rattle.answers.specs.Said as said
 use Rattle.answers.specs.Said.{Said}
 use Rattle.session.specs.declared.state.Session.{Session}
 
--- A fault and a refusal of the rules hold the same five numbers.
-abbrev pub fault_of : Refusal → Fault
-fault_of f = record { layer = f.layer; number = f.number; text = f.text; place = f.place; judgement = f.judgement }
+-- the refusal of the rules that a broken size limit stands for
+abbrev pub limit : Bool → Refusal → Option Refusal
+limit true f = Some f
+limit false f = None
+
+-- what the code's answer of a limit says
+abbrev pub limit_of : Result ⊤ code.Refusal → Option Refusal
+limit_of (Ok u) = None
+limit_of (Err e) = Some (meaning e)
+
+-- the answer to a call of which the size limits alone are served
+abbrev pub limited_to : Verb → Option Refusal → Said
+limited_to w None = said.not_served w
+limited_to w (Some f) = said.refused w (fault_of f)
+
+-- the kind of store: a flat table where the log has chosen none
+abbrev pub kind_of : Session → StoreKind
+kind_of s = unwrap_or s.store Flat
 
 -- the rule by which a store of a kind is full
 abbrev pub rule_of : StoreKind → Rule
@@ -49,13 +68,13 @@ said_of w log.barred = said.barred w
 
 -- the answer to a call of the library
 abbrev pub called : Session → Verb → log.Line → Said
-called s w l = cond (served (state_of s) l) (said_of w (log.reply (rule_of s.kind) (state_of s) l)) (said.not_served w)
+called s w l = cond (served (state_of s) l) (said_of w (log.reply (rule_of (kind_of s)) (state_of s) l)) (said.not_served w)
 
 -- The answer to what a line asks, if there is one. A store is chosen before any other request.
 abbrev pub answer_to : Session → Asked → Option Said
 answer_to s passed = None
 answer_to s unknown = Some said.no_request
-answer_to s (store k) = Some (cond s.begun said.no_request (said.store k))
+answer_to s (store k) = Some (cond (is_some s.store) said.no_request (said.store k))
 answer_to s (table n) = Some (said.table n)
 answer_to s (numbers n) = Some (said.numbers n)
 answer_to s (declare text) = Some (called s Declare (log.declare text s.table))
@@ -66,28 +85,28 @@ answer_to s (rests_on n) = Some (called s RestsOn (log.ask_rests_on n s.numbers)
 answer_to s (carries n) = Some (called s Carries (log.ask_carries n s.numbers))
 answer_to s seal = Some (called s Seal log.seal)
 
-abbrev pub session : Bool → Bool → StoreKind → ℕ → ℕ → Session
-session b s k t n = record { begun = b; sealed = s; kind = k; table = t; numbers = n }
+abbrev pub session : Option StoreKind → Bool → ℕ → ℕ → Session
+session k s t n = record { store = k; sealed = s; table = t; numbers = n }
 
 -- the session with a request behind it
 abbrev pub begun : Session → Session
-begun s = session true s.sealed s.kind s.table s.numbers
+begun s = session (Some (kind_of s)) s.sealed s.table s.numbers
 
 -- The session after what a line asks.
 abbrev pub after : Session → Asked → Session
 after s passed = s
 after s unknown = s
-after s (store k) = cond s.begun s (session true s.sealed k s.table s.numbers)
-after s (table n) = session true s.sealed s.kind n s.numbers
-after s (numbers n) = session true s.sealed s.kind s.table n
+after s (store k) = cond (is_some s.store) s (session (Some k) s.sealed s.table s.numbers)
+after s (table n) = session (Some (kind_of s)) s.sealed n s.numbers
+after s (numbers n) = session (Some (kind_of s)) s.sealed s.table n
 after s (declare text) = begun s
 after s (claim statement proof) = begun s
 after s count = begun s
 after s (look_up w) = begun s
 after s (rests_on n) = begun s
 after s (carries n) = begun s
-after s seal = session true true s.kind s.table s.numbers
+after s seal = session (Some (kind_of s)) true s.table s.numbers
 
--- Before the first line: the library is open, over a flat table, and the tables have these lengths where the log sets none.
+-- Before the first line: the library is open, its store is not chosen yet, and the tables have these lengths where the log sets none.
 abbrev pub start : Session
-start = session false false Flat 32768 1024
+start = session None false 32768 1024

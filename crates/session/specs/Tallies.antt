@@ -45,8 +45,12 @@ raised nowhere t = t
 abbrev pub noted : Tally → Said → Tally
 noted t a = raised (column a) t
 
+-- the counts, as bytes
+abbrev pub counts_bytes : Tally → List ℕ
+counts_bytes t =
+    decimal t.accepted ++ (codes " accepted, " ++ (decimal t.refused ++ (codes " refused, " ++ (decimal t.answered
+    ++ (codes " answered, " ++ (decimal t.not_carried_out ++ codes " not carried out"))))))
+
 -- the closing line
 abbrev pub closing_bytes : Tally → ℕ → List ℕ
-closing_bytes t constants =
-    decimal t.accepted ++ (codes " accepted, " ++ (decimal t.refused ++ (codes " refused, " ++ (decimal t.answered
-    ++ (codes " answered, " ++ (decimal t.not_carried_out ++ (codes " not carried out, " ++ (decimal constants ++ codes " constants"))))))))
+closing_bytes t constants = counts_bytes t ++ (codes ", " ++ (decimal constants ++ codes " constants"))

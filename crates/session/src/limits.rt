@@ -1,62 +1,50 @@
 // The size limits of declares and claims.
-ghost use Rattle.std.specs.Prelude.{◌≡◌, ◌/◌, ◌≤◌};
-ghost use Rattle.rules.specs.Refusal.{claim_limits, declare_limits, unfit_table};
-ghost use Rattle.session.specs.Session.{fault_of};
-ghost use Rattle.std.specs.Option.{option_map};
+ghost use Rattle.std.specs.Prelude.{◌≡◌, ◌≤◌};
+ghost use Rattle.rules.specs.Refusal.{claim_limits, declare_limits, refusal, too_long, unfit_table};
+ghost use Rattle.refusals.specs.Refusal.{text_number};
+ghost use Rattle.session.specs.Session.{limit, limit_of};
 
-use answers::Fault;
+use refusals::{Refusal, Text};
 
 // The bytes that a text may have, and the nodes that a work table may have.
 const TEXT_BYTES: usize = 4096;
 
 const TABLE_NODES: usize = 32768;
 
-// A fault that has no place.
-pub(crate) fn placeless(number: u8, text: u8) -> Fault
-    ensures { result ≡ record { layer = number / 10; number = number; text = text; place = 0; judgement = 0 } }
+// A text has not too many bytes.
+fn fit_text(bytes: &[u8], text: Text) -> Result<(), Refusal>
+    ensures { limit_of result ≡ limit (too_long bytes.now) (refusal 11 (text_number text) 0 0) }
 {
-    Fault {
-        layer: number / 10,
-        number,
-        text,
-        place: 0,
-        judgement: 0,
+    if bytes.len() > TEXT_BYTES {
+        return Err(Refusal::TextTooLong { text });
     }
+    Ok(())
 }
 
-// Whether a work table has too many nodes, or too few for its texts.
-fn is_unfit(table: usize, bytes: usize) -> bool
+// A work table has not too many nodes, nor too few for the bytes of its texts.
+fn fit_table(table: usize, bytes: usize) -> Result<(), Refusal>
     requires { bytes ≤ 8192 }
-    ensures { result ≡ unfit_table table bytes }
+    ensures { limit_of result ≡ limit (unfit_table table bytes) (refusal 12 0 0 0) }
 {
-    table > TABLE_NODES || table < 2 * bytes
+    if table > TABLE_NODES || table < 2 * bytes {
+        return Err(Refusal::UnfitTable);
+    }
+    Ok(())
 }
 
 // The size limit that a declare does not keep.
-pub(crate) fn declare_fault(text: &[u8], table: usize) -> Option<Fault>
-    ensures { result ≡ option_map fault_of (declare_limits text.now table) }
+pub(crate) fn declare_fault(text: &[u8], table: usize) -> Result<(), Refusal>
+    ensures { limit_of result ≡ declare_limits text.now table }
 {
-    if text.len() > TEXT_BYTES {
-        return Some(placeless(11, 0));
-    }
-    if is_unfit(table, text.len()) {
-        return Some(placeless(12, 0));
-    }
-    None
+    fit_text(text, Text::First)?;
+    fit_table(table, text.len())
 }
 
 // The size limit that a claim does not keep.
-pub(crate) fn claim_fault(statement: &[u8], proof: &[u8], table: usize) -> Option<Fault>
-    ensures { result ≡ option_map fault_of (claim_limits statement.now proof.now table) }
+pub(crate) fn claim_fault(statement: &[u8], proof: &[u8], table: usize) -> Result<(), Refusal>
+    ensures { limit_of result ≡ claim_limits statement.now proof.now table }
 {
-    if statement.len() > TEXT_BYTES {
-        return Some(placeless(11, 0));
-    }
-    if proof.len() > TEXT_BYTES {
-        return Some(placeless(11, 1));
-    }
-    if is_unfit(table, statement.len() + proof.len()) {
-        return Some(placeless(12, 0));
-    }
-    None
+    fit_text(statement, Text::First)?;
+    fit_text(proof, Text::Proof)?;
+    fit_table(table, statement.len() + proof.len())
 }

@@ -3,22 +3,32 @@ ghost use Rattle.answers.specs.Said.{meaning as said};
 ghost use Rattle.requests.specs.declared.Verb.TheVariants.{Claim, Declare, Seal};
 ghost use Rattle.requests.specs.Asked.{meaning, request_meaning};
 ghost use Rattle.rules.specs.Log.{claim, declare, seal};
-ghost use Rattle.session.specs.Session.{after, answer_to, called, start};
+ghost use Rattle.session.specs.Session.{after, answer_to, called, limit_of, limited_to, start};
 ghost use Rattle.std.specs.Option.{option_map};
 ghost use Rattle.std.specs.Prelude.{◌≡◌, Some};
 
-use crate::limits::{claim_fault, declare_fault, placeless};
+use crate::limits::{claim_fault, declare_fault};
 use answers::Answer;
-use requests::{Line, Request, StoreKind, Verb};
+use refusals::Refusal;
+use requests::{NoRequest, Request, StoreKind, Verb};
 
-// Whether a request was made, whether the library is sealed, the kind of its store, and the lengths of the tables.
-#[derive(Clone, Copy)]
+// The kind of store from the first request on, whether the library is sealed, and the lengths of the tables.
+#[derive(Clone, Copy, Debug, PartialEq, Eq)]
 pub struct Session {
-    begun: bool,
+    store: Option<StoreKind>,
     sealed: bool,
-    kind: StoreKind,
     table: usize,
     numbers: usize,
+}
+
+// The answer to a call of which the size limits alone are served.
+fn limited(verb: Verb, limits: Result<(), Refusal>) -> Answer<'static>
+    ensures { said result ≡ limited_to verb (limit_of limits) }
+{
+    match limits {
+        Ok(()) => Answer::NotServed(verb),
+        Err(refusal) => Answer::Refused(verb, refusal.into()),
+    }
 }
 
 impl Session {
@@ -27,9 +37,8 @@ impl Session {
         ensures { result ≡ start }
     {
         Session {
-            begun: false,
+            store: None,
             sealed: false,
-            kind: StoreKind::Flat,
             table: 32768,
             numbers: 1024,
         }
@@ -41,19 +50,13 @@ impl Session {
         if self.sealed {
             return Answer::Barred(Verb::Declare);
         }
-        match declare_fault(text, self.table) {
-            Some(fault) => Answer::Refused(Verb::Declare, fault),
-            None => Answer::NotServed(Verb::Declare),
-        }
+        limited(Verb::Declare, declare_fault(text, self.table))
     }
 
     fn claim(self, statement: &[u8], proof: &[u8]) -> Answer<'static>
         ensures { said result ≡ called self Claim (claim statement.now proof.now self.table) }
     {
-        match claim_fault(statement, proof, self.table) {
-            Some(fault) => Answer::Refused(Verb::Claim, fault),
-            None => Answer::NotServed(Verb::Claim),
-        }
+        limited(Verb::Claim, claim_fault(statement, proof, self.table))
     }
 
     fn seal(self) -> Answer<'static>
@@ -70,16 +73,16 @@ impl Session {
         ensures { Some (said result) ≡ answer_to self (request_meaning request.entry) }
     {
         match request {
-            Request::Store(kind) if !self.begun => Answer::Store(kind),
+            Request::Store(kind) if self.store.is_none() => Answer::Store(kind),
             Request::Store(_) => Answer::NoRequest,
             Request::Table(length) => Answer::Table(length),
             Request::Numbers(length) => Answer::Numbers(length),
             Request::Declare(text) => self.declare(text),
-            Request::Claim(statement, proof) => self.claim(statement, proof),
+            Request::Claim { statement, proof } => self.claim(statement, proof),
             Request::Count => Answer::Count(0),
             Request::LookUp(_) => Answer::LookUp(None),
-            Request::RestsOn(_) => Answer::Refused(Verb::RestsOn, placeless(51, 0)),
-            Request::Carries(_) => Answer::Refused(Verb::Carries, placeless(51, 0)),
+            Request::RestsOn(_) => Answer::Refused(Verb::RestsOn, Refusal::NoSuchConstant.into()),
+            Request::Carries(_) => Answer::Refused(Verb::Carries, Refusal::NoSuchConstant.into()),
             Request::Seal => self.seal(),
         }
     }
@@ -89,12 +92,15 @@ impl Session {
         ensures { result ≡ after self (request_meaning request.entry) }
     {
         let next = Session {
-            begun: true,
+            store: self.store.or(Some(StoreKind::Flat)),
             ..self
         };
         match request {
-            Request::Store(_) if self.begun => self,
-            Request::Store(kind) => Session { kind, ..next },
+            Request::Store(_) if self.store.is_some() => self,
+            Request::Store(kind) => Session {
+                store: Some(kind),
+                ..self
+            },
             Request::Table(table) => Session { table, ..next },
             Request::Numbers(numbers) => Session { numbers, ..next },
             Request::Seal => Session {
@@ -106,18 +112,21 @@ impl Session {
     }
 
     // The answer to a line, if it has one, and the session after it.
-    pub(crate) fn take(&mut self, line: Line<'_>) -> Option<Answer<'static>>
+    pub(crate) fn take(
+        &mut self,
+        line: Result<Option<Request<'_>>, NoRequest>,
+    ) -> Option<Answer<'static>>
         ensures answer { option_map said result ≡ answer_to self.old (meaning line.entry) }
         ensures next { self.new ≡ after self.old (meaning line.entry) }
     {
         match line {
-            Line::Passed => None,
-            Line::Unknown => Some(Answer::NoRequest),
-            Line::Asks(request) => {
+            Ok(None) => None,
+            Ok(Some(request)) => {
                 let answer = self.answer(request);
                 *self = self.after(request);
                 Some(answer)
             }
+            Err(NoRequest) => Some(Answer::NoRequest),
         }
     }
 }

@@ -1,13 +1,13 @@
 // The counts of the closing line.
 ghost use Rattle.answers.specs.Said.{meaning};
-ghost use Rattle.session.specs.Tallies.{closing_bytes, empty, noted};
-ghost use Rattle.std.specs.Prelude.{◌≡◌, IfOk, string_bytes};
+ghost use Rattle.session.specs.Tallies.{closing_bytes, counts_bytes, empty, noted};
+ghost use Rattle.std.specs.Prelude.{◌≡◌, Some};
 
 use answers::Answer;
-use std::alloc::{AllocError, Global};
+use std::fmt;
 
 // How many answers there were of each sort.
-#[derive(Clone, Copy)]
+#[derive(Clone, Copy, Debug, PartialEq, Eq)]
 pub struct Tally {
     accepted: usize,
     refused: usize,
@@ -47,17 +47,38 @@ impl Tally {
             }
         }
     }
+}
 
-    // `A accepted, R refused, Q answered, B not carried out, C constants`.
-    pub(crate) fn closing_line(&self, heap: Global, constants: usize) -> Result<String, AllocError>
-        ensures { IfOk result (λ s. string_bytes s ≡ closing_bytes self.now constants) }
-    {
-        let accepted = self.accepted;
-        let refused = self.refused;
-        let answered = self.answered;
-        let not_carried_out = self.not_carried_out;
-        format!(in heap;
-            "{accepted} accepted, {refused} refused, {answered} answered, {not_carried_out} not carried out, {constants} constants"
+// `A accepted, R refused, Q answered, B not carried out`.
+impl fmt::Display for Tally {
+    ghost output = { λ tally. Some (counts_bytes tally) };
+
+    fn fmt<W: fmt::Write>(&self, f: &mut fmt::Formatter<W>) -> fmt::Result {
+        let Tally {
+            accepted,
+            refused,
+            answered,
+            not_carried_out,
+        } = *self;
+        write!(
+            f,
+            "{accepted} accepted, {refused} refused, {answered} answered, {not_carried_out} not carried out"
         )
+    }
+}
+
+// The last line: the counts, and how many constants there are.
+#[derive(Clone, Copy, Debug, PartialEq, Eq)]
+pub struct Closing {
+    pub(crate) tally: Tally,
+    pub(crate) constants: usize,
+}
+
+impl fmt::Display for Closing {
+    ghost output = { λ closing. Some (closing_bytes closing.tally closing.constants) };
+
+    fn fmt<W: fmt::Write>(&self, f: &mut fmt::Formatter<W>) -> fmt::Result {
+        let Closing { tally, constants } = *self;
+        write!(f, "{tally}, {constants} constants")
     }
 }

@@ -3,7 +3,7 @@ ghost use Rattle.session.specs.Transcript.{closed, fresh, taken};
 ghost use Rattle.std.specs.Prelude.{◌≡◌, IfOk, OnOk, string_bytes};
 
 use crate::state::Session;
-use crate::totals::Tally;
+use crate::totals::{Closing, Tally};
 use answers::answer_line;
 use requests::read_line;
 use std::alloc::{AllocError, Global};
@@ -56,8 +56,11 @@ impl Transcript {
     pub(crate) fn close(mut self) -> Result<String, AllocError>
         ensures { IfOk result (λ s. string_bytes s ≡ closed self) }
     {
-        let counts = self.tally.closing_line(self.heap, 0)?;
-        writeln!(self.text, "{counts}")?;
+        let closing = Closing {
+            tally: self.tally,
+            constants: 0,
+        };
+        writeln!(self.text, "{closing}")?;
         Ok(self.text)
     }
 }

@@ -4,7 +4,7 @@
 ghost use Rattle.std.specs.Prelude.{◌≡◌};
 ghost use Rattle.rules.specs.Log.{run};
 ghost use Rattle.rules.specs.Rule.{flat};
-ghost use Rattle.worked.specs.Worked.{answers, lines, replies};
+ghost use Rattle.worked.specs.Worked.{lines, replies};
 
 use refusals::{Judgement, Refusal, Text};
 
@@ -19,9 +19,10 @@ pub enum Figure {
 
 use Figure::{Claimed, Declared, Listed, Refused};
 
-// The answers of the worked list.
-fn listed_figures() -> [Figure; 20]
-    ensures { replies result ≡ answers }
+// What the rules answer to the lines of the worked list, over an empty flat table.
+#[tactic(auto, using(crate::proofs::Computed::worked))]
+pub fn figures() -> [Figure; 20]
+    ensures { run flat lines ≡ replies result }
 {
     [
         Declared {
@@ -96,11 +97,4 @@ fn listed_figures() -> [Figure; 20]
         Listed(&[0, 3, 5, 6, 7]),
         Listed(&[3, 4, 5, 6, 7]),
     ]
-}
-
-// What the rules answer to the lines of the worked list, over an empty flat table.
-pub fn figures() -> [Figure; 20]
-    ensures { run flat lines ≡ replies result }
-{
-    listed_figures()
 }

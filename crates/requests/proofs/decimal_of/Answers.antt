@@ -1,28 +1,25 @@
-use Rattle.std.proofs.Common.{sym, refl, ◌∙◌}
-use Rattle.requests.specs.Decimal.{is_digit}
-use Rattle.requests.proofs.Steps.{not_empty, every_goes, every_stops, value_more, small_more, digit_small, decimal_some, decimal_none}
+use Rattle.std.proofs.Common.{◌≡◌, length, sym, ◌∙◌, ap, arith, is_ok}
+use Rattle.std.specs.Prelude.{Ok}
+use Rattle.std.proofs.lemmas.Bool.{eqb-false}
+use Rattle.std.proofs.lemmas.Grind.{common_steps}
+use Rattle.requests.specs.Decimal.{value}
+use Rattle.requests.proofs.Decimals.{digits_are_text, digits_parse}
 use Rattle.requests.proofs.decimal_of.Goals as goal
+use Rattle.requests.proofs.decimal_of.Goals.{After-parse}
 
-pub returns-then-not-is_ascii_digit : goal.returns-then-not-is_ascii_digit
-returns-then-not-is_ascii_digit c =
-    rw (every_stops is_digit c.args.bytes.now c.loop-byte.byte-index c.loop-byte.invariant.2 c.loop-byte-test.true (sym c.is_ascii_digit.ensures.value ∙ c.if-not-is_ascii_digit.true)) refl
+-- the number that was read
+parsed : (c : After-parse) → c.parse.result ≡ Ok (value c.args.bytes.now)
+parsed c = digits_parse c.args.bytes.now c.unwrap.result.now c.parse.result (grind (arith, common_steps)) c.parse.ensures.value.0 (sym c.is_digits.ensures ∙ c.if-not-is_digits.false)
+    (omega (arith, eqb-false (length c.args.bytes.now) 0 (sym c.is_empty.ensures ∙ c.if-is_empty.false))) c.if-bytes-gt-MOST_DIGITS.false
 
-pub loop-byte-preserved : goal.loop-byte-preserved
-loop-byte-preserved c =
-    let xs = c.args.bytes.now in
-    let i = c.loop-byte.byte-index in
-    let digit = sym c.is_ascii_digit.ensures.value ∙ c.if-not-is_ascii_digit.false in (
-      value_more xs i _ c.loop-byte-test.true c.loop-byte.invariant.0,
-      small_more i _ _ c.loop-byte.invariant.1 (digit_small _ digit),
-      every_goes is_digit xs i c.loop-byte.invariant.2 c.loop-byte-test.true digit,
-    )
+pub unwrap-requires : goal.unwrap-requires
+unwrap-requires c = let text = digits_are_text c.args.bytes.now (sym c.is_digits.ensures ∙ c.if-not-is_digits.false) in grind (arith, common_steps)
+
+pub unwrap-number-requires : goal.unwrap-number-requires
+unwrap-number-requires c = ap is_ok (parsed c)
 
 pub returns-then-number-most : goal.returns-then-number-most
-returns-then-number-most c =
-    decimal_none c.args.bytes.now c.loop-byte.byte-index c.loop-byte.number c.args.most (not_empty c.args.bytes.now (sym c.is_empty.ensures ∙ c.if-is_empty.false)) c.if-bytes-gt-MOST_DIGITS.false
-    c.loop-byte-test.false c.loop-byte.invariant.0 c.loop-byte.invariant.2 c.if-number-most.true
+returns-then-number-most c = let number = parsed (goal.at.returns-then-number-most c).After-parse in grind (arith, common_steps)
 
 pub returns : goal.returns
-returns c =
-    decimal_some c.args.bytes.now c.loop-byte.byte-index c.loop-byte.number c.args.most (not_empty c.args.bytes.now (sym c.is_empty.ensures ∙ c.if-is_empty.false)) c.if-bytes-gt-MOST_DIGITS.false
-    c.loop-byte-test.false c.loop-byte.invariant.0 c.loop-byte.invariant.2 c.if-number-most.false
+returns c = let number = parsed (goal.at.returns c).After-parse in grind (arith, common_steps)

@@ -1,8 +1,10 @@
-use Rattle.std.proofs.Common.{sym}
-use Rattle.requests.proofs.Steps.{undivided}
+use Rattle.std.proofs.Common.{arith}
+use Rattle.std.proofs.lemmas.Grind.{common_steps}
+use Rattle.requests.proofs.Parts.{parts}
 use Rattle.requests.proofs.split.Goals as goal
 
-pub returns-in-None : goal.returns-in-None
-returns-in-None c =
-    let p = undivided c.args.byte c.args.bytes.now c.in-None.ensures in
-    record { front = sym p.0; back = sym p.1 }
+pub returns-clause-front : goal.returns-clause-front
+returns-clause-front c = let p = parts c.args.byte c.args.bytes.now in grind (arith, common_steps)
+
+pub returns-clause-back : goal.returns-clause-back
+returns-clause-back c = let p = parts c.args.byte c.args.bytes.now in grind (arith, common_steps)

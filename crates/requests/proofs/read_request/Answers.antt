@@ -1,0 +1,12 @@
+use Rattle.std.proofs.Common.{ap, sym, ◌∙◌}
+use Rattle.requests.specs.Asked.{asked_by, or_no_request, verb_named, with}
+use Rattle.requests.specs.Bytes.{after}
+use Rattle.requests.proofs.Parts.{was_some}
+use Rattle.requests.proofs.read_request.Goals as goal
+
+pub returns : goal.returns
+returns c =
+    let spelled = ap (λ w. or_no_request (verb_named w)) (sym c.split.ensures.front) ∙ sym c.try_from.ensures ∙ c.in_ok-try_from.was in
+    c.request_of.ensures
+    ∙ ap (asked_by c.in_ok-try_from.field-0) c.split.ensures.back
+    ∙ ap (with (λ v. asked_by v (after 32 c.args.line.now))) (sym (was_some _ _ spelled))
