@@ -82,3 +82,41 @@ pub fn answer_line(heap: Global, number: usize, answer: &Answer) -> Result<Strin
 {
     format!(in heap; "{number}: {answer}")
 }
+
+#[cfg(test)]
+mod tests {
+    use super::*;
+
+    // The lines are those of the page on the log format.
+    #[test]
+    fn lines_are_written(rt: HostRuntime) {
+        let fault = Fault {
+            layer: 3,
+            number: 39,
+            text: 1,
+            place: 24,
+            judgement: 4,
+        };
+        let cases = [
+            (
+                Answer::Refused(Verb::Claim, fault),
+                "7: claim refused 39 layer 3 text 1 place 24 judgement 4 - the nodes do not fit the work table",
+            ),
+            (
+                Answer::Listed(Verb::RestsOn, &[0, 3, 5, 6, 7]),
+                "7: rests-on 5: 0 3 5 6 7",
+            ),
+            (
+                Answer::Declared {
+                    constant: 3,
+                    work: 7,
+                },
+                "7: declare accepted: constant 3, work 7",
+            ),
+        ];
+        for (answer, text) in cases {
+            let line = answer_line(rt.alloc(), 7, &answer).expect(&rt, "memory suffices");
+            assert_eq!(rt; line.as_str(), text);
+        }
+    }
+}

@@ -124,6 +124,7 @@ pub enum Refusal {
 }
 
 // A refusal by its five numbers: the layer, the number, the text, the place in it, and the judgement.
+// Numbers: whoever prints a fault may choose any, and an enum here would take fewer.
 #[derive(Clone, Copy, Debug, PartialEq, Eq)]
 pub struct Fault {
     pub layer: u8,
@@ -226,7 +227,7 @@ impl From<Refusal> for Fault {
 }
 
 // A refusal's number in words.
-// By number: a fault holds any number, and an enum here would take fewer.
+// By number: a fault may hold any, and an enum here would take fewer.
 fn reason(number: u8) -> &'static str
     ensures { result.now ≡ reason_bytes number }
 {

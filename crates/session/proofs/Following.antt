@@ -10,7 +10,7 @@ use Rattle.requests.specs.declared.Verb.TheVariants.{Declare, Claim, Count, Look
 use Rattle.requests.specs.Asked.{Asked, asked, passed, unknown, store, table, numbers, declare, claim, count, look_up, rests_on, carries, seal}
 use Rattle.answers.specs.Said.{Said, not_served}
 use Rattle.session.specs.declared.state.Session.{Session}
-use Rattle.session.specs.Session.{kind_of, state_of, rule_of, served, said_of, answer_to, session, after, start}
+use Rattle.session.specs.Session.{kind_of, state_of, rule_of, served, said_of, answer_to, after, start}
 use Rattle.session.specs.Law.{Call, call, call_of, is_served, add_if, calls, answers, spoken, FollowsRules}
 use Rattle.session.specs.Lines.{lines}
 
@@ -78,7 +78,7 @@ maybe_call r s v l ys cs same rest false e = rest
 -- the choice of a store leaves the library as it is
 store_keeps : (s : Session) (k : StoreKind) → state_of (after s (store k)) ≡ state_of s
 store_keeps s k =
-    elim (is_some s.store) as (λ b. state_of (cond b s (session (Some k) s.sealed s.table s.numbers)) ≡ state_of s) [ true ↦ refl | false ↦ refl ]
+    elim (is_some s.store) as (λ b. state_of (cond b s (record s { store = Some k })) ≡ state_of s) [ true ↦ refl | false ↦ refl ]
 
 -- one line, and the lines after it
 one_line : (r : Rule) (s : Session) (q : Asked) (ys : List Said) (cs : List Call) → ys ≡ spoken cs (log.run_from r (state_of (after s q)) (map (λ c. c.line) cs)) →

@@ -1,4 +1,5 @@
 pub mod Law
+pub mod Limits
 pub mod Lines
 pub mod Output
 pub mod Session

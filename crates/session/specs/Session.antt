@@ -1,8 +1,7 @@
 -- What the program answers to each line of a log: what the rules answer, as far as it is served.
-use Rattle.std.specs.Prelude.{ℕ, Bool, true, false, cond, ◌||◌, [], is_some, Some, None, Option, Ok, Err, Result}
+use Rattle.std.specs.Prelude.{Bool, true, false, cond, ◌||◌, [], is_some, Some, None, Option}
 use Rattle.std.specs.Option.{unwrap_or}
-use Rattle.std.specs.Bool.{⊤}
-use Rattle.rules.specs.Refusal.{Refusal, declare_limits, claim_limits}
+use Rattle.rules.specs.Refusal.{declare_limits, claim_limits}
 use Rattle.rules.specs.Rule.{Rule, flat, modular}
 use Rattle.rules.specs.Log as log
 use Rattle.requests.specs.declared.StoreKind.{StoreKind}
@@ -10,27 +9,10 @@ use Rattle.requests.specs.declared.StoreKind.TheVariants.{Flat, Module}
 use Rattle.requests.specs.Asked.{Asked, passed, unknown, store, table, numbers, declare, claim, count, look_up, rests_on, carries, seal}
 use Rattle.requests.specs.declared.Verb.{Verb}
 use Rattle.requests.specs.declared.Verb.TheVariants.{Declare, Claim, Count, LookUp, RestsOn, Carries, Seal}
-use Rattle.refusals.specs.declared.Refusal as code
-use Rattle.refusals.specs.Refusal.{meaning}
 use Rattle.refusals.specs.Fault.{fault_of}
 use Rattle.answers.specs.Said as said
 use Rattle.answers.specs.Said.{Said}
 use Rattle.session.specs.declared.state.Session.{Session}
-
--- the refusal of the rules that a broken size limit stands for
-abbrev pub limit : Bool → Refusal → Option Refusal
-limit true f = Some f
-limit false f = None
-
--- what the code's answer of a limit says
-abbrev pub limit_of : Result ⊤ code.Refusal → Option Refusal
-limit_of (Ok u) = None
-limit_of (Err e) = Some (meaning e)
-
--- the answer to a call of which the size limits alone are served
-abbrev pub limited_to : Verb → Option Refusal → Said
-limited_to w None = said.not_served w
-limited_to w (Some f) = said.refused w (fault_of f)
 
 -- the kind of store: a flat table where the log has chosen none
 abbrev pub kind_of : Session → StoreKind
@@ -85,28 +67,25 @@ answer_to s (rests_on n) = Some (called s RestsOn (log.ask_rests_on n s.numbers)
 answer_to s (carries n) = Some (called s Carries (log.ask_carries n s.numbers))
 answer_to s seal = Some (called s Seal log.seal)
 
-abbrev pub session : Option StoreKind → Bool → ℕ → ℕ → Session
-session k s t n = record { store = k; sealed = s; table = t; numbers = n }
-
 -- the session with a request behind it
 abbrev pub begun : Session → Session
-begun s = session (Some (kind_of s)) s.sealed s.table s.numbers
+begun s = record s { store = Some (kind_of s) }
 
 -- The session after what a line asks.
 abbrev pub after : Session → Asked → Session
 after s passed = s
 after s unknown = s
-after s (store k) = cond (is_some s.store) s (session (Some k) s.sealed s.table s.numbers)
-after s (table n) = session (Some (kind_of s)) s.sealed n s.numbers
-after s (numbers n) = session (Some (kind_of s)) s.sealed s.table n
+after s (store k) = cond (is_some s.store) s (record s { store = Some k })
+after s (table n) = record (begun s) { table = n }
+after s (numbers n) = record (begun s) { numbers = n }
 after s (declare text) = begun s
 after s (claim statement proof) = begun s
 after s count = begun s
 after s (look_up w) = begun s
 after s (rests_on n) = begun s
 after s (carries n) = begun s
-after s seal = session (Some (kind_of s)) true s.table s.numbers
+after s seal = record (begun s) { sealed = true }
 
 -- Before the first line: the library is open, its store is not chosen yet, and the tables have these lengths where the log sets none.
 abbrev pub start : Session
-start = session None false 32768 1024
+start = record { store = None; sealed = false; table = 32768; numbers = 1024 }

@@ -35,10 +35,10 @@ abbrev pub one_more : ℕ → ℕ
 one_more n = min (n + 1) (2 ^ 64 - 1)
 
 abbrev pub raised : Column → Tally → Tally
-raised as_accepted t = record { accepted = one_more t.accepted; refused = t.refused; answered = t.answered; not_carried_out = t.not_carried_out }
-raised as_refused t = record { accepted = t.accepted; refused = one_more t.refused; answered = t.answered; not_carried_out = t.not_carried_out }
-raised as_answered t = record { accepted = t.accepted; refused = t.refused; answered = one_more t.answered; not_carried_out = t.not_carried_out }
-raised as_not_carried_out t = record { accepted = t.accepted; refused = t.refused; answered = t.answered; not_carried_out = one_more t.not_carried_out }
+raised as_accepted t = record t { accepted = one_more t.accepted }
+raised as_refused t = record t { refused = one_more t.refused }
+raised as_answered t = record t { answered = one_more t.answered }
+raised as_not_carried_out t = record t { not_carried_out = one_more t.not_carried_out }
 raised nowhere t = t
 
 -- the counts after one more answer

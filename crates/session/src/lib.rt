@@ -27,3 +27,17 @@ pub fn replay(heap: Global, log: &[u8]) -> Result<String, AllocError>
     }
     transcript.close()
 }
+
+#[cfg(test)]
+mod tests {
+    use super::*;
+
+    #[test]
+    fn a_log_is_replayed(rt: HostRuntime) {
+        let printed = replay(rt.alloc(), b"count\n\nlook-up z").expect(&rt, "memory suffices");
+        assert_eq!(rt;
+            printed.as_str(),
+            "1: count 0\n3: look-up none\n0 accepted, 0 refused, 2 answered, 0 not carried out, 0 constants\n"
+        );
+    }
+}

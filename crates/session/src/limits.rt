@@ -1,8 +1,8 @@
 // The size limits of declares and claims.
-ghost use Rattle.std.specs.Prelude.{◌≡◌, ◌≤◌};
+ghost use Rattle.std.specs.Prelude.{◌≡◌, ◌≤◌, cond, None, Some};
 ghost use Rattle.rules.specs.Refusal.{claim_limits, declare_limits, refusal, too_long, unfit_table};
 ghost use Rattle.refusals.specs.Refusal.{text_number};
-ghost use Rattle.session.specs.Session.{limit, limit_of};
+ghost use Rattle.session.specs.Limits.{limit_of};
 
 use refusals::{Refusal, Text};
 
@@ -13,7 +13,7 @@ const TABLE_NODES: usize = 32768;
 
 // A text has not too many bytes.
 fn fit_text(bytes: &[u8], text: Text) -> Result<(), Refusal>
-    ensures { limit_of result ≡ limit (too_long bytes.now) (refusal 11 (text_number text) 0 0) }
+    ensures { limit_of result ≡ cond (too_long bytes.now) (Some (refusal 11 (text_number text) 0 0)) None }
 {
     if bytes.len() > TEXT_BYTES {
         return Err(Refusal::TextTooLong { text });
@@ -24,7 +24,7 @@ fn fit_text(bytes: &[u8], text: Text) -> Result<(), Refusal>
 // A work table has not too many nodes, nor too few for the bytes of its texts.
 fn fit_table(table: usize, bytes: usize) -> Result<(), Refusal>
     requires { bytes ≤ 8192 }
-    ensures { limit_of result ≡ limit (unfit_table table bytes) (refusal 12 0 0 0) }
+    ensures { limit_of result ≡ cond (unfit_table table bytes) (Some (refusal 12 0 0 0)) None }
 {
     if table > TABLE_NODES || table < 2 * bytes {
         return Err(Refusal::UnfitTable);

@@ -3,7 +3,8 @@ ghost use Rattle.answers.specs.Said.{meaning as said};
 ghost use Rattle.requests.specs.declared.Verb.TheVariants.{Claim, Declare, Seal};
 ghost use Rattle.requests.specs.Asked.{meaning, request_meaning};
 ghost use Rattle.rules.specs.Log.{claim, declare, seal};
-ghost use Rattle.session.specs.Session.{after, answer_to, called, limit_of, limited_to, start};
+ghost use Rattle.session.specs.Limits.{limit_of, limited_to};
+ghost use Rattle.session.specs.Session.{after, answer_to, called, start};
 ghost use Rattle.std.specs.Option.{option_map};
 ghost use Rattle.std.specs.Prelude.{◌≡◌, Some};
 

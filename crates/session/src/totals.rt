@@ -1,13 +1,13 @@
 // The counts of the closing line.
 ghost use Rattle.answers.specs.Said.{meaning};
-ghost use Rattle.session.specs.Tallies.{closing_bytes, counts_bytes, empty, noted};
+ghost use Rattle.session.specs.Tallies.{counts_bytes, noted};
 ghost use Rattle.std.specs.Prelude.{◌≡◌, Some};
 
 use answers::Answer;
 use std::fmt;
 
 // How many answers there were of each sort.
-#[derive(Clone, Copy, Debug, PartialEq, Eq)]
+#[derive(Clone, Copy, Debug, Default, PartialEq, Eq)]
 pub struct Tally {
     accepted: usize,
     refused: usize,
@@ -16,17 +16,6 @@ pub struct Tally {
 }
 
 impl Tally {
-    pub(crate) fn new() -> Tally
-        ensures { result ≡ empty }
-    {
-        Tally {
-            accepted: 0,
-            refused: 0,
-            answered: 0,
-            not_carried_out: 0,
-        }
-    }
-
     // Counts one more answer.
     pub(crate) fn note(&mut self, answer: &Answer)
         ensures { self.new ≡ noted self.old (meaning answer.now) }
@@ -64,21 +53,5 @@ impl fmt::Display for Tally {
             f,
             "{accepted} accepted, {refused} refused, {answered} answered, {not_carried_out} not carried out"
         )
-    }
-}
-
-// The last line: the counts, and how many constants there are.
-#[derive(Clone, Copy, Debug, PartialEq, Eq)]
-pub struct Closing {
-    pub(crate) tally: Tally,
-    pub(crate) constants: usize,
-}
-
-impl fmt::Display for Closing {
-    ghost output = { λ closing. Some (closing_bytes closing.tally closing.constants) };
-
-    fn fmt<W: fmt::Write>(&self, f: &mut fmt::Formatter<W>) -> fmt::Result {
-        let Closing { tally, constants } = *self;
-        write!(f, "{tally}, {constants} constants")
     }
 }
