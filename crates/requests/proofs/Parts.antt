@@ -1,8 +1,9 @@
 -- Lemmas on the parts of a line.
 use Rattle.std.proofs.Common.{◌≡◌, ℕ, ◌+◌, ◌||◌, true, false, cond, eqb, List, [], ◌∷◌, length, take, drop, refl, arith, Some, None}
-use Rattle.std.specs.Prelude.{nat_lt, not, Option, Ok}
+use Rattle.std.specs.Prelude.{nat_lt, not, Option, Ok, Err}
 use Rattle.std.specs.List.{position_or_len}
 use Rattle.std.proofs.lemmas.Grind.{common_steps}
+use Rattle.requests.specs.declared.NoRequest.{NoRequest}
 use Rattle.requests.specs.Asked.{or_no_request}
 use Rattle.requests.specs.Bytes.{holds, before, after}
 
@@ -23,3 +24,7 @@ parts b (x ∷ xs) =
 pub was_some : {X : Type 0} (o : Option X) (x : X) → or_no_request o ≡ Ok x → o ≡ Some x
 was_some None x e = cc
 was_some (Some y) x e = cc
+
+pub was_none : {X : Type 0} (o : Option X) (e : NoRequest) → or_no_request o ≡ Err e → o ≡ None
+was_none None e h = refl
+was_none (Some y) e h = cc

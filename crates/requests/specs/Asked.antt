@@ -1,13 +1,12 @@
 -- What a line of a log asks, as a function of its bytes.
-use Rattle.std.specs.Prelude.{ℕ, cond, ◌||◌, List, [], ◌∷◌, Some, None, Option, Ok, Err, Result}
+use Rattle.std.specs.Prelude.{ℕ, cond, find, ◌||◌, List, [], ◌∷◌, Some, None, Option, Ok, Err, Result}
 use Rattle.std.specs.List.{list_all}
 use Rattle.std.specs.Str.{bytes_eq}
 use Rattle.rules.specs.Token.{is_blank, begins_with}
 use Rattle.requests.specs.Bytes.{holds, before, after}
 use Rattle.requests.specs.Decimal.{read_decimal}
-use Rattle.requests.specs.Words.{kind_bytes, verb_bytes}
+use Rattle.requests.specs.Words.{kinds, kind_bytes, verbs, verb_bytes}
 use Rattle.requests.specs.declared.StoreKind.{StoreKind}
-use Rattle.requests.specs.declared.StoreKind.TheVariants.{Flat, Module}
 use Rattle.requests.specs.declared.Request.{Request}
 use Rattle.requests.specs.declared.Request.TheVariants.{Store, Table, Numbers, Declare, Claim, Count, LookUp, RestsOn, Carries, Seal}
 use Rattle.requests.specs.declared.Verb.{Verb}
@@ -41,21 +40,11 @@ lone ask (x ∷ xs) = unknown
 
 -- the kind of store that a name names
 abbrev pub kind_named : List ℕ → Option StoreKind
-kind_named name = cond (bytes_eq name (kind_bytes Flat)) (Some Flat) (cond (bytes_eq name (kind_bytes Module)) (Some Module) None)
+kind_named name = find (λ k. bytes_eq (kind_bytes k) name) kinds
 
 -- the verb that a word spells
 abbrev pub verb_named : List ℕ → Option Verb
-verb_named word =
-    cond (bytes_eq word (verb_bytes verb.Store)) (Some verb.Store)
-    (cond (bytes_eq word (verb_bytes verb.Table)) (Some verb.Table)
-    (cond (bytes_eq word (verb_bytes verb.Numbers)) (Some verb.Numbers)
-    (cond (bytes_eq word (verb_bytes verb.Declare)) (Some verb.Declare)
-    (cond (bytes_eq word (verb_bytes verb.Claim)) (Some verb.Claim)
-    (cond (bytes_eq word (verb_bytes verb.Count)) (Some verb.Count)
-    (cond (bytes_eq word (verb_bytes verb.LookUp)) (Some verb.LookUp)
-    (cond (bytes_eq word (verb_bytes verb.RestsOn)) (Some verb.RestsOn)
-    (cond (bytes_eq word (verb_bytes verb.Carries)) (Some verb.Carries)
-    (cond (bytes_eq word (verb_bytes verb.Seal)) (Some verb.Seal) None)))))))))
+verb_named word = find (λ v. bytes_eq (verb_bytes v) word) verbs
 
 -- what a verb asks with its operand
 abbrev pub asked_by : Verb → List ℕ → Asked

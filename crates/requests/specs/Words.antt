@@ -1,14 +1,24 @@
 -- The words of a log, as bytes.
-use Rattle.std.specs.Prelude.{ℕ, List, codes}
+use Rattle.std.specs.Prelude.{ℕ, List, [], ◌∷◌, codes}
 use Rattle.requests.specs.declared.StoreKind.{StoreKind}
 use Rattle.requests.specs.declared.StoreKind.TheVariants.{Flat, Module}
 use Rattle.requests.specs.declared.Verb.{Verb}
 use Rattle.requests.specs.declared.Verb.TheVariants.{Store, Table, Numbers, Declare, Claim, Count, LookUp, RestsOn, Carries, Seal}
 
+-- every kind of store
+abbrev pub kinds : List StoreKind
+kinds = Flat ∷ Module ∷ []
+
+-- the word of a kind
 abbrev pub kind_bytes : StoreKind → List ℕ
 kind_bytes Flat = codes "flat"
 kind_bytes Module = codes "module"
 
+-- every verb
+abbrev pub verbs : List Verb
+verbs = Store ∷ Table ∷ Numbers ∷ Declare ∷ Claim ∷ Count ∷ LookUp ∷ RestsOn ∷ Carries ∷ Seal ∷ []
+
+-- the word of a verb
 abbrev pub verb_bytes : Verb → List ℕ
 verb_bytes Store = codes "store"
 verb_bytes Table = codes "table"

@@ -5,10 +5,11 @@ ghost use Rattle.requests.specs.Asked.{asked, asked_by, asking, kind_named, lone
 ghost use Rattle.requests.specs.Bytes.{after, before};
 ghost use Rattle.requests.specs.Decimal.{is_digit, read_decimal};
 ghost use Rattle.requests.specs.Parts.{Divided};
-ghost use Rattle.requests.specs.Words.{kind_bytes, verb_bytes};
+ghost use Rattle.requests.specs.Words.{kind_bytes, kinds, verb_bytes, verbs};
 ghost use Rattle.rules.specs.Token.{begins_with, is_blank};
 ghost use Rattle.std.specs.List.{list_all};
-ghost use Rattle.std.specs.Prelude.{◌≡◌, ◌==◌, codes, position, Some};
+ghost use Rattle.std.specs.Prelude.{◌≡◌, ◌==◌, ℕ, codes, find, List, position, refl, Some};
+ghost use Rattle.std.specs.Str.{bytes_eq};
 
 use std::error::Error;
 use std::{fmt, str};
@@ -66,17 +67,60 @@ const LAST_CONSTANT: usize = 65535;
 // A decimal has at most so many digits.
 const MOST_DIGITS: usize = 9;
 
+// A choice among words.
+trait Choice: Copy + 'static {
+    ghost all: { List Self };
+
+    ghost bytes: { Self → List ℕ };
+
+    fn all() -> &'static [Self]
+        ensures { result.now ≡ all };
+
+    fn word(self) -> &'static str
+        ensures { result.now ≡ bytes self };
+
+    // The word of a choice spells it: every choice is listed, and no two have one word.
+    ghost spells_itself: { (c : Self) → find (λ d. bytes_eq (bytes d) (bytes c)) all ≡ Some c };
+}
+
+// The choice that a word spells.
+fn spelled<C: Choice>(word: &[u8]) -> Option<C>
+    ensures { result ≡ find (λ c. bytes_eq (C.bytes c) word.now) C.all }
+{
+    C::all()
+        .iter()
+        .copied()
+        .find(|choice| choice.word().as_bytes() == word)
+}
+
+impl Choice for StoreKind {
+    ghost use Rattle.requests.specs.declared.StoreKind.TheVariants.{Flat, Module};
+
+    ghost all = { kinds };
+
+    ghost bytes = { kind_bytes };
+
+    ghost spells_itself = { elim [ Flat ↦ refl | Module ↦ refl ] };
+
+    fn all() -> &'static [StoreKind] {
+        &[StoreKind::Flat, StoreKind::Module]
+    }
+
+    fn word(self) -> &'static str {
+        match self {
+            StoreKind::Flat => "flat",
+            StoreKind::Module => "module",
+        }
+    }
+}
+
 impl TryFrom<&[u8]> for StoreKind {
     type Error = NoRequest;
 
     ghost try_from_gives = { λ name r. r ≡ or_no_request (kind_named name.now) };
 
     fn try_from(name: &[u8]) -> Result<StoreKind, NoRequest> {
-        match name {
-            b"flat" => Ok(StoreKind::Flat),
-            b"module" => Ok(StoreKind::Module),
-            _ => Err(NoRequest),
-        }
+        spelled(name).ok_or(NoRequest)
     }
 }
 
@@ -84,40 +128,36 @@ impl fmt::Display for StoreKind {
     ghost output = { λ kind. Some (kind_bytes kind) };
 
     fn fmt<W: fmt::Write>(&self, f: &mut fmt::Formatter<W>) -> fmt::Result {
-        f.write_str(match self {
-            StoreKind::Flat => "flat",
-            StoreKind::Module => "module",
-        })
+        f.write_str(self.word())
     }
 }
 
-impl TryFrom<&[u8]> for Verb {
-    type Error = NoRequest;
+impl Choice for Verb {
+    ghost use Rattle.requests.specs.declared.Verb.TheVariants.{Store, Table, Numbers, Declare, Claim, Count, LookUp, RestsOn, Carries, Seal};
 
-    ghost try_from_gives = { λ word r. r ≡ or_no_request (verb_named word.now) };
+    ghost all = { verbs };
 
-    fn try_from(word: &[u8]) -> Result<Verb, NoRequest> {
-        match word {
-            b"store" => Ok(Verb::Store),
-            b"table" => Ok(Verb::Table),
-            b"numbers" => Ok(Verb::Numbers),
-            b"declare" => Ok(Verb::Declare),
-            b"claim" => Ok(Verb::Claim),
-            b"count" => Ok(Verb::Count),
-            b"look-up" => Ok(Verb::LookUp),
-            b"rests-on" => Ok(Verb::RestsOn),
-            b"carries" => Ok(Verb::Carries),
-            b"seal" => Ok(Verb::Seal),
-            _ => Err(NoRequest),
-        }
+    ghost bytes = { verb_bytes };
+
+    ghost spells_itself = { elim [ Store ↦ refl | Table ↦ refl | Numbers ↦ refl | Declare ↦ refl | Claim ↦ refl | Count ↦ refl | LookUp ↦ refl | RestsOn ↦ refl | Carries ↦ refl | Seal ↦ refl ] };
+
+    fn all() -> &'static [Verb] {
+        &[
+            Verb::Store,
+            Verb::Table,
+            Verb::Numbers,
+            Verb::Declare,
+            Verb::Claim,
+            Verb::Count,
+            Verb::LookUp,
+            Verb::RestsOn,
+            Verb::Carries,
+            Verb::Seal,
+        ]
     }
-}
 
-impl fmt::Display for Verb {
-    ghost output = { λ verb. Some (verb_bytes verb) };
-
-    fn fmt<W: fmt::Write>(&self, f: &mut fmt::Formatter<W>) -> fmt::Result {
-        f.write_str(match self {
+    fn word(self) -> &'static str {
+        match self {
             Verb::Store => "store",
             Verb::Table => "table",
             Verb::Numbers => "numbers",
@@ -128,7 +168,25 @@ impl fmt::Display for Verb {
             Verb::RestsOn => "rests-on",
             Verb::Carries => "carries",
             Verb::Seal => "seal",
-        })
+        }
+    }
+}
+
+impl TryFrom<&[u8]> for Verb {
+    type Error = NoRequest;
+
+    ghost try_from_gives = { λ word r. r ≡ or_no_request (verb_named word.now) };
+
+    fn try_from(word: &[u8]) -> Result<Verb, NoRequest> {
+        spelled(word).ok_or(NoRequest)
+    }
+}
+
+impl fmt::Display for Verb {
+    ghost output = { λ verb. Some (verb_bytes verb) };
+
+    fn fmt<W: fmt::Write>(&self, f: &mut fmt::Formatter<W>) -> fmt::Result {
+        f.write_str(self.word())
     }
 }
 
@@ -222,21 +280,21 @@ fn alone<'a>(operand: &[u8], request: Request<'a>) -> Result<Request<'a>, NoRequ
 fn request_of(verb: Verb, operand: &[u8]) -> Result<Request<'_>, NoRequest>
     ensures { asking result ≡ asked_by verb operand.now }
 {
-    Ok(match verb {
-        Verb::Store => Request::Store(StoreKind::try_from(operand)?),
-        Verb::Table => Request::Table(decimal_of(operand, LONGEST_TABLE)?),
-        Verb::Numbers => Request::Numbers(decimal_of(operand, LONGEST_TABLE)?),
-        Verb::Declare => Request::Declare(operand),
+    match verb {
+        Verb::Store => Ok(Request::Store(StoreKind::try_from(operand)?)),
+        Verb::Table => Ok(Request::Table(decimal_of(operand, LONGEST_TABLE)?)),
+        Verb::Numbers => Ok(Request::Numbers(decimal_of(operand, LONGEST_TABLE)?)),
+        Verb::Declare => Ok(Request::Declare(operand)),
         Verb::Claim => {
             let (statement, proof) = divide(operand, b'=').ok_or(NoRequest)?;
-            Request::Claim { statement, proof }
+            Ok(Request::Claim { statement, proof })
         }
-        Verb::Count => alone(operand, Request::Count)?,
-        Verb::LookUp => Request::LookUp(operand),
-        Verb::RestsOn => Request::RestsOn(decimal_of(operand, LAST_CONSTANT)?),
-        Verb::Carries => Request::Carries(decimal_of(operand, LAST_CONSTANT)?),
-        Verb::Seal => alone(operand, Request::Seal)?,
-    })
+        Verb::Count => alone(operand, Request::Count),
+        Verb::LookUp => Ok(Request::LookUp(operand)),
+        Verb::RestsOn => Ok(Request::RestsOn(decimal_of(operand, LAST_CONSTANT)?)),
+        Verb::Carries => Ok(Request::Carries(decimal_of(operand, LAST_CONSTANT)?)),
+        Verb::Seal => alone(operand, Request::Seal),
+    }
 }
 
 // The request that a line makes, if it makes one: its word ends before the first space, and its
