@@ -48,9 +48,7 @@ impl fmt::Display for Answer<'_> {
             Answer::LookUp(Some(constant)) => write!(f, "look-up {constant}"),
             Answer::LookUp(None) => write!(f, "look-up none"),
             Answer::Listed(verb, constants) => {
-                let count = constants.len();
-                let constants = Spaced(constants);
-                write!(f, "{verb} {count}:{constants}")
+                write!(f, "{verb} {}:{}", constants.len(), Spaced(constants))
             }
             Answer::Sealed => write!(f, "sealed"),
             Answer::Refused(verb, fault) => write!(f, "{verb} refused {fault}"),
@@ -62,7 +60,7 @@ impl fmt::Display for Answer<'_> {
 }
 
 // Numbers, each after a space.
-#[derive(Clone, Copy)]
+#[derive(Clone, Copy, Debug, PartialEq, Eq)]
 struct Spaced<'a>(&'a [u32]);
 
 impl fmt::Display for Spaced<'_> {

@@ -16,107 +16,63 @@ pub enum Text {
     Proof,
 }
 
+// A place in a text.
+#[derive(Clone, Copy, Debug, PartialEq, Eq)]
+pub struct Place {
+    pub text: Text,
+    pub at: usize,
+}
+
 // The judgement at which a check refuses.
 #[derive(Clone, Copy, Debug, PartialEq, Eq)]
 pub enum Judgement {
-    Classifier,
+    Classifier = 1,
     Type,
     Object,
     Spine,
 }
 
-// Why a call says no, with what varies: the text, the place in it, and the judgement.
+// Why a call says no, with what varies.
 #[derive(Clone, Copy, Debug, PartialEq, Eq)]
 pub enum Refusal {
     // A text has too many bytes.
-    TextTooLong {
-        text: Text,
-    },
+    TextTooLong(Text),
     // The work table has too many nodes, or too few for the texts.
     UnfitTable,
     // A byte cannot begin a token.
-    NoToken {
-        text: Text,
-        place: usize,
-    },
+    NoToken(Place),
     // A name has too many bytes.
-    LongName {
-        text: Text,
-        place: usize,
-    },
+    LongName(Place),
     // A token does not fit the grammar.
-    MisfitToken {
-        text: Text,
-        place: usize,
-    },
+    MisfitToken(Place),
     // What a token opens is too deep.
-    TooDeep {
-        text: Text,
-        place: usize,
-    },
+    TooDeep(Place),
     // A head finds neither a binder nor a constant.
-    UnknownName {
-        text: Text,
-        place: usize,
-    },
+    UnknownName(Place),
     // The judgement has no such form.
-    WrongForm {
-        text: Text,
-        place: usize,
-        judgement: Judgement,
-    },
+    WrongForm(Place, Judgement),
     // For a type the head is an index, or its classifier is no kind; for an object its classifier is a kind.
-    WrongHead {
-        text: Text,
-        place: usize,
-        judgement: Judgement,
-    },
+    WrongHead(Place, Judgement),
     // A head with a spine stands against a product.
-    HeadAtProduct {
-        text: Text,
-        place: usize,
-    },
+    HeadAtProduct(Place),
     // An abstraction stands against what is no product.
-    LamAtNoProduct {
-        text: Text,
-        place: usize,
-    },
+    LamAtNoProduct(Place),
     // An argument is missing.
-    TooFew {
-        text: Text,
-        place: usize,
-    },
+    TooFew(Place),
     // There is an argument, and no product for it.
-    TooMany {
-        text: Text,
-        place: usize,
-    },
+    TooMany(Place),
     // The type in which the spine ends is not the one asked for.
-    Unequal {
-        text: Text,
-        place: usize,
-    },
+    Unequal(Place),
     // The put of an argument has no result.
-    NoResult {
-        text: Text,
-        place: usize,
-    },
+    NoResult(Place),
     // The nodes to be written do not fit the work table.
-    NoRoom {
-        text: Text,
-        place: usize,
-        judgement: Judgement,
-    },
+    NoRoom(Place, Judgement),
     // The name is not one that reads, or the classifier is not lawful.
     UnfitEntry,
-    // The name is already in the store.
-    NameTaken {
-        place: usize,
-    },
-    // The store is full for this name and size.
-    StoreFull {
-        place: usize,
-    },
+    // The name is already in the store: its place in the text that declares it.
+    NameTaken(usize),
+    // The store is full for this name and size: the place of the name.
+    StoreFull(usize),
     // The number is that of no constant.
     NoSuchConstant,
     // The number table is shorter than the count of constants.
@@ -124,7 +80,7 @@ pub enum Refusal {
 }
 
 // A refusal by its five numbers: the layer, the number, the text, the place in it, and the judgement.
-// Numbers: whoever prints a fault may choose any, and an enum here would take fewer.
+// Numbers by a rule of this crate: any fault is printed, and an enum here would take fewer.
 #[derive(Clone, Copy, Debug, PartialEq, Eq)]
 pub struct Fault {
     pub layer: u8,
@@ -134,100 +90,56 @@ pub struct Fault {
     pub judgement: u8,
 }
 
-// The number of a text: 1 for the proof of a claim, else 0.
-impl From<Text> for u8 {
-    ghost from_gives = { λ text number. number ≡ text_number text };
-
-    fn from(text: Text) -> u8 {
-        match text {
-            Text::First => 0,
-            Text::Proof => 1,
-        }
-    }
-}
-
-// The number of a judgement, from 1 on.
-impl From<Judgement> for u8 {
-    ghost from_gives = { λ judgement number. number ≡ judgement_number judgement };
-
-    fn from(judgement: Judgement) -> u8 {
-        match judgement {
-            Judgement::Classifier => 1,
-            Judgement::Type => 2,
-            Judgement::Object => 3,
-            Judgement::Spine => 4,
-        }
-    }
-}
-
 // The fault of a number. The layer is the number's tens, and 0 stands for no judgement.
-fn numbered(number: u8, text: Text, place: usize, judgement: Option<Judgement>) -> Fault
-    ensures { result ≡ fault_of (refusal number (text_number text) place (option_map_or judgement_number judgement 0)) }
+fn numbered(number: u8, place: Place, judgement: Option<Judgement>) -> Fault
+    ensures { result ≡ fault_of (refusal number (text_number place.text) place.at (option_map_or judgement_number judgement 0)) }
 {
     Fault {
         layer: number / 10,
         number,
-        text: text.into(),
-        place,
-        judgement: judgement.map_or(0, u8::from),
+        text: place.text as u8,
+        place: place.at,
+        judgement: judgement.map_or(0, |judgement| judgement as u8),
     }
 }
 
-// Each refusal has its number here.
+// This is where a refusal becomes a number.
 impl From<Refusal> for Fault {
     ghost from_gives = { λ refusal fault. fault ≡ fault_of (meaning refusal) };
 
     fn from(refusal: Refusal) -> Fault {
+        let nowhere = Place {
+            text: Text::First,
+            at: 0,
+        };
         match refusal {
-            Refusal::TextTooLong { text } => numbered(11, text, 0, None),
-            Refusal::UnfitTable => numbered(12, Text::First, 0, None),
-            Refusal::NoToken { text, place } => numbered(13, text, place, None),
-            Refusal::LongName { text, place } => numbered(14, text, place, None),
-            Refusal::MisfitToken { text, place } => numbered(15, text, place, None),
-            Refusal::TooDeep { text, place } => numbered(16, text, place, None),
-            Refusal::UnknownName { text, place } => numbered(21, text, place, None),
-            Refusal::WrongForm {
-                text,
-                place,
-                judgement,
-            } => numbered(31, text, place, Some(judgement)),
-            Refusal::WrongHead {
-                text,
-                place,
-                judgement,
-            } => numbered(32, text, place, Some(judgement)),
-            Refusal::HeadAtProduct { text, place } => numbered(
-                33,
-                text,
-                place,
-                Some(Judgement::Object),
-            ),
-            Refusal::LamAtNoProduct { text, place } => numbered(
-                34,
-                text,
-                place,
-                Some(Judgement::Object),
-            ),
-            Refusal::TooFew { text, place } => numbered(35, text, place, Some(Judgement::Spine)),
-            Refusal::TooMany { text, place } => numbered(36, text, place, Some(Judgement::Spine)),
-            Refusal::Unequal { text, place } => numbered(37, text, place, Some(Judgement::Object)),
-            Refusal::NoResult { text, place } => numbered(38, text, place, Some(Judgement::Spine)),
-            Refusal::NoRoom {
-                text,
-                place,
-                judgement,
-            } => numbered(39, text, place, Some(judgement)),
-            Refusal::UnfitEntry => numbered(41, Text::First, 0, None),
-            Refusal::NameTaken { place } => numbered(42, Text::First, place, None),
-            Refusal::StoreFull { place } => numbered(43, Text::First, place, None),
-            Refusal::NoSuchConstant => numbered(51, Text::First, 0, None),
-            Refusal::ShortNumbers => numbered(52, Text::First, 0, None),
+            Refusal::TextTooLong(text) => numbered(11, Place { text, at: 0 }, None),
+            Refusal::UnfitTable => numbered(12, nowhere, None),
+            Refusal::NoToken(place) => numbered(13, place, None),
+            Refusal::LongName(place) => numbered(14, place, None),
+            Refusal::MisfitToken(place) => numbered(15, place, None),
+            Refusal::TooDeep(place) => numbered(16, place, None),
+            Refusal::UnknownName(place) => numbered(21, place, None),
+            Refusal::WrongForm(place, judgement) => numbered(31, place, Some(judgement)),
+            Refusal::WrongHead(place, judgement) => numbered(32, place, Some(judgement)),
+            Refusal::HeadAtProduct(place) => numbered(33, place, Some(Judgement::Object)),
+            Refusal::LamAtNoProduct(place) => numbered(34, place, Some(Judgement::Object)),
+            Refusal::TooFew(place) => numbered(35, place, Some(Judgement::Spine)),
+            Refusal::TooMany(place) => numbered(36, place, Some(Judgement::Spine)),
+            Refusal::Unequal(place) => numbered(37, place, Some(Judgement::Object)),
+            Refusal::NoResult(place) => numbered(38, place, Some(Judgement::Spine)),
+            Refusal::NoRoom(place, judgement) => numbered(39, place, Some(judgement)),
+            Refusal::UnfitEntry => numbered(41, nowhere, None),
+            Refusal::NameTaken(at) => numbered(42, Place { at, ..nowhere }, None),
+            Refusal::StoreFull(at) => numbered(43, Place { at, ..nowhere }, None),
+            Refusal::NoSuchConstant => numbered(51, nowhere, None),
+            Refusal::ShortNumbers => numbered(52, nowhere, None),
         }
     }
 }
 
 // A refusal's number in words.
-// By number: a fault may hold any, and an enum here would take fewer.
+// By number, by the same rule: a fault may hold any.
 fn reason(number: u8) -> &'static str
     ensures { result.now ≡ reason_bytes number }
 {

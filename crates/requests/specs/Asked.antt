@@ -1,6 +1,7 @@
 -- What a line of a log asks, as a function of its bytes.
 use Rattle.std.specs.Prelude.{ℕ, cond, find, ◌||◌, List, [], ◌∷◌, Some, None, Option, Ok, Err, Result}
 use Rattle.std.specs.List.{list_all}
+use Rattle.std.specs.Result.{result_ok}
 use Rattle.std.specs.Str.{bytes_eq}
 use Rattle.rules.specs.Token.{is_blank, begins_with}
 use Rattle.requests.specs.Bytes.{holds, before, after}
@@ -82,18 +83,12 @@ request_meaning (RestsOn n) = rests_on n
 request_meaning (Carries n) = carries n
 request_meaning Seal = seal
 
--- what the code's answer of a request or none says
+-- what the code's answer of a request or an error says
 abbrev pub asking : Result Request NoRequest → Asked
-asking (Err e) = unknown
-asking (Ok r) = request_meaning r
+asking r = with request_meaning (result_ok r)
 
 -- what the code's line says
 abbrev pub meaning : Result (Option Request) NoRequest → Asked
 meaning (Err e) = unknown
 meaning (Ok None) = passed
 meaning (Ok (Some r)) = request_meaning r
-
--- a value that may be missing, as the code answers it
-abbrev pub or_no_request : {X : Type 0} → Option X → Result X NoRequest
-or_no_request None = Err (record {})
-or_no_request (Some x) = Ok x

@@ -1,7 +1,7 @@
 // Reads the lines of a log of requests.
 #![tactic(auto)]
 
-ghost use Rattle.requests.specs.Asked.{asked, asked_by, asking, kind_named, lone, meaning, or_no_request, request_meaning, requested, verb_named};
+ghost use Rattle.requests.specs.Asked.{asked, asked_by, asking, kind_named, lone, meaning, request_meaning, requested, verb_named};
 ghost use Rattle.requests.specs.Bytes.{after, before};
 ghost use Rattle.requests.specs.Decimal.{is_digit, read_decimal};
 ghost use Rattle.requests.specs.Parts.{Divided};
@@ -9,6 +9,7 @@ ghost use Rattle.requests.specs.Words.{kind_bytes, kinds, verb_bytes, verbs};
 ghost use Rattle.rules.specs.Token.{begins_with, is_blank};
 ghost use Rattle.std.specs.List.{list_all};
 ghost use Rattle.std.specs.Prelude.{◌≡◌, ◌==◌, ℕ, codes, find, List, position, refl, Some};
+ghost use Rattle.std.specs.Result.{result_ok};
 ghost use Rattle.std.specs.Str.{bytes_eq};
 
 use std::error::Error;
@@ -117,7 +118,7 @@ impl Choice for StoreKind {
 impl TryFrom<&[u8]> for StoreKind {
     type Error = NoRequest;
 
-    ghost try_from_gives = { λ name r. r ≡ or_no_request (kind_named name.now) };
+    ghost try_from_gives = { λ name r. result_ok r ≡ kind_named name.now };
 
     fn try_from(name: &[u8]) -> Result<StoreKind, NoRequest> {
         spelled(name).ok_or(NoRequest)
@@ -175,7 +176,7 @@ impl Choice for Verb {
 impl TryFrom<&[u8]> for Verb {
     type Error = NoRequest;
 
-    ghost try_from_gives = { λ word r. r ≡ or_no_request (verb_named word.now) };
+    ghost try_from_gives = { λ word r. result_ok r ≡ verb_named word.now };
 
     fn try_from(word: &[u8]) -> Result<Verb, NoRequest> {
         spelled(word).ok_or(NoRequest)
@@ -190,6 +191,7 @@ impl fmt::Display for Verb {
     }
 }
 
+// By hand: a derived one says nothing of its bytes.
 impl fmt::Display for NoRequest {
     ghost output = { λ _. Some (codes "not a request") };
 
@@ -252,7 +254,7 @@ fn is_digits(bytes: &[u8]) -> bool
 
 // The number that `bytes` write in digits, if they are a decimal and it is at most `most`.
 fn decimal_of(bytes: &[u8], most: usize) -> Result<usize, NoRequest>
-    ensures { result ≡ or_no_request (read_decimal bytes.now most) }
+    ensures { result_ok result ≡ read_decimal bytes.now most }
 {
     if bytes.is_empty() || bytes.len() > MOST_DIGITS || !is_digits(bytes) {
         return Err(NoRequest);

@@ -1,5 +1,5 @@
 // The size limits of declares and claims.
-ghost use Rattle.std.specs.Prelude.{◌≡◌, ◌≤◌, cond, None, Some};
+ghost use Rattle.std.specs.Prelude.{◌≡◌, cond, None, Some};
 ghost use Rattle.rules.specs.Refusal.{claim_limits, declare_limits, refusal, too_long, unfit_table};
 ghost use Rattle.refusals.specs.Refusal.{text_number};
 ghost use Rattle.session.specs.Limits.{limit_of};
@@ -16,23 +16,22 @@ fn fit_text(bytes: &[u8], text: Text) -> Result<(), Refusal>
     ensures { limit_of result ≡ cond (too_long bytes.now) (Some (refusal 11 (text_number text) 0 0)) None }
 {
     if bytes.len() > TEXT_BYTES {
-        return Err(Refusal::TextTooLong { text });
+        return Err(Refusal::TextTooLong(text));
     }
     Ok(())
 }
 
-// A work table has not too many nodes, nor too few for the bytes of its texts.
+// A work table has not too many nodes, nor fewer than two for each byte of its texts.
 fn fit_table(table: usize, bytes: usize) -> Result<(), Refusal>
-    requires { bytes ≤ 8192 }
     ensures { limit_of result ≡ cond (unfit_table table bytes) (Some (refusal 12 0 0 0)) None }
 {
-    if table > TABLE_NODES || table < 2 * bytes {
+    if table > TABLE_NODES || table / 2 < bytes {
         return Err(Refusal::UnfitTable);
     }
     Ok(())
 }
 
-// The size limit that a declare does not keep.
+// The refusal of a declare that does not keep its size limits.
 pub(crate) fn declare_fault(text: &[u8], table: usize) -> Result<(), Refusal>
     ensures { limit_of result ≡ declare_limits text.now table }
 {
@@ -40,7 +39,7 @@ pub(crate) fn declare_fault(text: &[u8], table: usize) -> Result<(), Refusal>
     fit_table(table, text.len())
 }
 
-// The size limit that a claim does not keep.
+// The refusal of a claim that does not keep its size limits.
 pub(crate) fn claim_fault(statement: &[u8], proof: &[u8], table: usize) -> Result<(), Refusal>
     ensures { limit_of result ≡ claim_limits statement.now proof.now table }
 {

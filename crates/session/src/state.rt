@@ -1,17 +1,19 @@
 // What a log has set so far, and the answers that follow from it.
 ghost use Rattle.answers.specs.Said.{meaning as said};
-ghost use Rattle.requests.specs.declared.Verb.TheVariants.{Claim, Declare, Seal};
-ghost use Rattle.requests.specs.Asked.{meaning, request_meaning};
-ghost use Rattle.rules.specs.Log.{claim, declare, seal};
+ghost use Rattle.requests.specs.Asked.{request_meaning};
 ghost use Rattle.session.specs.Limits.{limit_of, limited_to};
-ghost use Rattle.session.specs.Session.{after, answer_to, called, start};
-ghost use Rattle.std.specs.Option.{option_map};
+ghost use Rattle.session.specs.Session.{after, answer_to, start};
 ghost use Rattle.std.specs.Prelude.{◌≡◌, Some};
 
 use crate::limits::{claim_fault, declare_fault};
 use answers::Answer;
 use refusals::Refusal;
-use requests::{NoRequest, Request, StoreKind, Verb};
+use requests::{Request, StoreKind, Verb};
+
+// The lengths of the tables where a log sets none.
+const WORK_TABLE: usize = 32768;
+
+const NUMBER_TABLE: usize = 1024;
 
 // The kind of store from the first request on, whether the library is sealed, and the lengths of the tables.
 #[derive(Clone, Copy, Debug, PartialEq, Eq)]
@@ -40,33 +42,9 @@ impl Session {
         Session {
             store: None,
             sealed: false,
-            table: 32768,
-            numbers: 1024,
+            table: WORK_TABLE,
+            numbers: NUMBER_TABLE,
         }
-    }
-
-    fn declare(self, text: &[u8]) -> Answer<'static>
-        ensures { said result ≡ called self Declare (declare text.now self.table) }
-    {
-        if self.sealed {
-            return Answer::Barred(Verb::Declare);
-        }
-        limited(Verb::Declare, declare_fault(text, self.table))
-    }
-
-    fn claim(self, statement: &[u8], proof: &[u8]) -> Answer<'static>
-        ensures { said result ≡ called self Claim (claim statement.now proof.now self.table) }
-    {
-        limited(Verb::Claim, claim_fault(statement, proof, self.table))
-    }
-
-    fn seal(self) -> Answer<'static>
-        ensures { said result ≡ called self Seal seal }
-    {
-        if self.sealed {
-            return Answer::Barred(Verb::Seal);
-        }
-        Answer::Sealed
     }
 
     // The answer to a request. The library has no constants as yet.
@@ -78,13 +56,17 @@ impl Session {
             Request::Store(_) => Answer::NoRequest,
             Request::Table(length) => Answer::Table(length),
             Request::Numbers(length) => Answer::Numbers(length),
-            Request::Declare(text) => self.declare(text),
-            Request::Claim { statement, proof } => self.claim(statement, proof),
+            Request::Declare(_) if self.sealed => Answer::Barred(Verb::Declare),
+            Request::Declare(text) => limited(Verb::Declare, declare_fault(text, self.table)),
+            Request::Claim { statement, proof } => {
+                limited(Verb::Claim, claim_fault(statement, proof, self.table))
+            }
             Request::Count => Answer::Count(0),
             Request::LookUp(_) => Answer::LookUp(None),
             Request::RestsOn(_) => Answer::Refused(Verb::RestsOn, Refusal::NoSuchConstant.into()),
             Request::Carries(_) => Answer::Refused(Verb::Carries, Refusal::NoSuchConstant.into()),
-            Request::Seal => self.seal(),
+            Request::Seal if self.sealed => Answer::Barred(Verb::Seal),
+            Request::Seal => Answer::Sealed,
         }
     }
 
@@ -93,7 +75,7 @@ impl Session {
         ensures { result ≡ after self (request_meaning request.entry) }
     {
         let next = Session {
-            store: self.store.or(Some(StoreKind::Flat)),
+            store: Some(self.store.unwrap_or(StoreKind::Flat)),
             ..self
         };
         match request {
@@ -112,22 +94,13 @@ impl Session {
         }
     }
 
-    // The answer to a line, if it has one, and the session after it.
-    pub(crate) fn take(
-        &mut self,
-        line: Result<Option<Request<'_>>, NoRequest>,
-    ) -> Option<Answer<'static>>
-        ensures answer { option_map said result ≡ answer_to self.old (meaning line.entry) }
-        ensures next { self.new ≡ after self.old (meaning line.entry) }
+    // The answer to a request, and the session after it.
+    pub(crate) fn take(&mut self, request: Request<'_>) -> Answer<'static>
+        ensures answer { Some (said result) ≡ answer_to self.old (request_meaning request.entry) }
+        ensures next { self.new ≡ after self.old (request_meaning request.entry) }
     {
-        match line {
-            Ok(None) => None,
-            Ok(Some(request)) => {
-                let answer = self.answer(request);
-                *self = self.after(request);
-                Some(answer)
-            }
-            Err(NoRequest) => Some(Answer::NoRequest),
-        }
+        let answer = self.answer(request);
+        *self = self.after(request);
+        answer
     }
 }

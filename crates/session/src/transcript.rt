@@ -4,8 +4,8 @@ ghost use Rattle.std.specs.Prelude.{◌≡◌, IfOk, OnOk, string_bytes};
 
 use crate::state::Session;
 use crate::totals::Tally;
-use answers::answer_line;
-use requests::read_line;
+use answers::{Answer, answer_line};
+use requests::{NoRequest, read_line};
 use std::alloc::{AllocError, Global};
 use std::marker::Model;
 
@@ -44,11 +44,14 @@ impl Transcript {
     pub(crate) fn take(&mut self, number: usize, line: &[u8]) -> Result<(), AllocError>
         ensures { OnOk result (self.new ≡ taken number line.now self.old) }
     {
-        if let Some(answer) = self.session.take(read_line(line)) {
-            let written = answer_line(self.heap, number, &answer)?;
-            writeln!(self.text, "{written}")?;
-            self.tally.note(&answer);
-        }
+        let answer = match read_line(line) {
+            Ok(None) => return Ok(()),
+            Ok(Some(request)) => self.session.take(request),
+            Err(NoRequest) => Answer::NoRequest,
+        };
+        let written = answer_line(self.heap, number, &answer)?;
+        writeln!(self.text, "{written}")?;
+        self.tally.note(&answer);
         Ok(())
     }
 

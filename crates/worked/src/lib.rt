@@ -6,7 +6,7 @@ ghost use Rattle.rules.specs.Log.{run};
 ghost use Rattle.rules.specs.Rule.{flat};
 ghost use Rattle.worked.specs.Worked.{lines, replies};
 
-use refusals::{Judgement, Refusal, Text};
+use refusals::{Judgement, Place, Refusal, Text};
 
 // The answer to a line.
 #[derive(Clone, Copy, Debug, PartialEq, Eq)]
@@ -58,42 +58,48 @@ pub fn figures() -> [Figure; 20]
             work: 71,
         },
         Claimed { work: 270 },
-        Refused(Refusal::NoRoom {
+        Refused(Refusal::NoRoom(
+            Place {
+                text: Text::Proof,
+                at: 24,
+            },
+            Judgement::Spine,
+        )),
+        Refused(Refusal::Unequal(Place {
             text: Text::Proof,
-            place: 24,
-            judgement: Judgement::Spine,
-        }),
-        Refused(Refusal::Unequal {
-            text: Text::Proof,
-            place: 4,
-        }),
-        Refused(Refusal::HeadAtProduct {
+            at: 4,
+        })),
+        Refused(Refusal::HeadAtProduct(Place {
             text: Text::First,
-            place: 25,
-        }),
-        Refused(Refusal::LamAtNoProduct {
+            at: 25,
+        })),
+        Refused(Refusal::LamAtNoProduct(Place {
             text: Text::First,
-            place: 8,
-        }),
-        Refused(Refusal::TooFew {
+            at: 8,
+        })),
+        Refused(Refusal::TooFew(Place {
             text: Text::First,
-            place: 8,
-        }),
-        Refused(Refusal::TooMany {
+            at: 8,
+        })),
+        Refused(Refusal::TooMany(Place {
             text: Text::First,
-            place: 8,
-        }),
-        Refused(Refusal::WrongHead {
-            text: Text::First,
-            place: 4,
-            judgement: Judgement::Type,
-        }),
-        Refused(Refusal::WrongForm {
-            text: Text::First,
-            place: 4,
-            judgement: Judgement::Type,
-        }),
-        Refused(Refusal::NameTaken { place: 0 }),
+            at: 8,
+        })),
+        Refused(Refusal::WrongHead(
+            Place {
+                text: Text::First,
+                at: 4,
+            },
+            Judgement::Type,
+        )),
+        Refused(Refusal::WrongForm(
+            Place {
+                text: Text::First,
+                at: 4,
+            },
+            Judgement::Type,
+        )),
+        Refused(Refusal::NameTaken(0)),
         Listed(&[0, 3, 5, 6, 7]),
         Listed(&[3, 4, 5, 6, 7]),
     ]
