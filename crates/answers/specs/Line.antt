@@ -2,13 +2,17 @@
 use Rattle.std.specs.Prelude.{ℕ, List, ◌++◌, length, Some, None, codes, decimal, Option}
 use Rattle.answers.specs.Said.{Said, store, table, numbers, declared, claimed, count, look_up, listed, sealed, refused, not_served, barred, no_request}
 use Rattle.requests.specs.Words.{kind_bytes, verb_bytes}
+use Rattle.std.specs.List.{flat_map}
 use Rattle.refusals.specs.Fault.{fault_bytes}
-use Rattle.answers.specs.Words.{spaced}
 
 -- a constant's number, or that there is none
 abbrev pub found_bytes : Option ℕ → List ℕ
 found_bytes None = codes "none"
 found_bytes (Some n) = decimal n
+
+-- numbers, each after a space
+abbrev pub spaced : List ℕ → List ℕ
+spaced ns = flat_map (λ n. codes " " ++ decimal n) ns
 
 -- what is said after the line's number
 abbrev pub said_bytes : Said → List ℕ

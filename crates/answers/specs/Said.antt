@@ -1,7 +1,7 @@
 -- What is answered to a line of a log, with a list in place of a slice.
 use Rattle.std.specs.Prelude.{ℕ, List, Option}
-use Rattle.requests.specs.declared.StoreKind.{StoreKind}
-use Rattle.requests.specs.declared.Verb.{Verb}
+use Rattle.requests.specs.declared.kind.StoreKind.{StoreKind}
+use Rattle.requests.specs.declared.verb.Verb.{Verb}
 use Rattle.refusals.specs.declared.Fault.{Fault}
 use Rattle.answers.specs.declared.Answer.{Answer}
 use Rattle.answers.specs.declared.Answer.TheVariants.{Store, Table, Numbers, Declared, Claimed, Count, LookUp, Listed, Sealed, Refused, NotServed, Barred, NoRequest}

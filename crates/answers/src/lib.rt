@@ -1,9 +1,8 @@
 // Writes the answers to the requests of a log, one line each.
 #![tactic(auto)]
 
-ghost use Rattle.answers.specs.Line.{answer_bytes, said_bytes};
+ghost use Rattle.answers.specs.Line.{answer_bytes, said_bytes, spaced};
 ghost use Rattle.answers.specs.Said.{meaning};
-ghost use Rattle.answers.specs.Words.{spaced};
 ghost use Rattle.std.specs.Prelude.{◌≡◌, IfOk, Some, string_bytes};
 
 pub use refusals::Fault;

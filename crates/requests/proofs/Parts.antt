@@ -6,7 +6,7 @@ use Rattle.std.proofs.lemmas.Grind.{common_steps}
 use Rattle.requests.specs.Bytes.{holds, before, after}
 
 -- the first place of b, or the length, and the parts on its two sides
-abbrev pub place : ℕ → List ℕ → ℕ
+abbrev place : ℕ → List ℕ → ℕ
 place b xs = position_or_len (λ x. eqb x b) xs
 
 pub parts : (b : ℕ) (xs : List ℕ) → (holds b xs ≡ nat_lt (place b xs) (length xs)) × (before b xs ≡ take (place b xs) xs) × (after b xs ≡ drop (place b xs + 1) xs)

@@ -1,5 +1,5 @@
 -- What a line of a log asks, as a function of its bytes.
-use Rattle.std.specs.Prelude.{ℕ, cond, find, ◌||◌, List, [], ◌∷◌, Some, None, Option, Ok, Err, Result}
+use Rattle.std.specs.Prelude.{ℕ, cond, find, ◌||◌, List, [], ◌∷◌, Some, None, Option, Result}
 use Rattle.std.specs.List.{list_all}
 use Rattle.std.specs.Result.{result_ok}
 use Rattle.std.specs.Str.{bytes_eq}
@@ -7,11 +7,11 @@ use Rattle.rules.specs.Token.{is_blank, begins_with}
 use Rattle.requests.specs.Bytes.{holds, before, after}
 use Rattle.requests.specs.Decimal.{read_decimal}
 use Rattle.requests.specs.Words.{kinds, kind_bytes, verbs, verb_bytes}
-use Rattle.requests.specs.declared.StoreKind.{StoreKind}
+use Rattle.requests.specs.declared.kind.StoreKind.{StoreKind}
 use Rattle.requests.specs.declared.Request.{Request}
 use Rattle.requests.specs.declared.Request.TheVariants.{Store, Table, Numbers, Declare, Claim, Count, LookUp, RestsOn, Carries, Seal}
-use Rattle.requests.specs.declared.Verb.{Verb}
-use Rattle.requests.specs.declared.Verb.TheVariants as verb
+use Rattle.requests.specs.declared.verb.Verb.{Verb}
+use Rattle.requests.specs.declared.verb.Verb.TheVariants as verb
 use Rattle.requests.specs.declared.NoRequest.{NoRequest}
 
 -- a line is passed over, is no request, or is one of the ten requests with its operand
@@ -83,12 +83,11 @@ request_meaning (RestsOn n) = rests_on n
 request_meaning (Carries n) = carries n
 request_meaning Seal = seal
 
--- what the code's answer of a request or an error says
+-- what the code says of a line that is not passed over
 abbrev pub asking : Result Request NoRequest → Asked
 asking r = with request_meaning (result_ok r)
 
--- what the code's line says
-abbrev pub meaning : Result (Option Request) NoRequest → Asked
-meaning (Err e) = unknown
-meaning (Ok None) = passed
-meaning (Ok (Some r)) = request_meaning r
+-- what the code says of a line
+abbrev pub meaning : Option (Result Request NoRequest) → Asked
+meaning None = passed
+meaning (Some r) = asking r

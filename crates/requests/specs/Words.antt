@@ -1,9 +1,9 @@
 -- The words of a log, as bytes.
 use Rattle.std.specs.Prelude.{ℕ, List, [], ◌∷◌, codes}
-use Rattle.requests.specs.declared.StoreKind.{StoreKind}
-use Rattle.requests.specs.declared.StoreKind.TheVariants.{Flat, Module}
-use Rattle.requests.specs.declared.Verb.{Verb}
-use Rattle.requests.specs.declared.Verb.TheVariants.{Store, Table, Numbers, Declare, Claim, Count, LookUp, RestsOn, Carries, Seal}
+use Rattle.requests.specs.declared.kind.StoreKind.{StoreKind}
+use Rattle.requests.specs.declared.kind.StoreKind.TheVariants.{Flat, Module}
+use Rattle.requests.specs.declared.verb.Verb.{Verb}
+use Rattle.requests.specs.declared.verb.Verb.TheVariants.{Store, Table, Numbers, Declare, Claim, Count, LookUp, RestsOn, Carries, Seal}
 
 -- every kind of store
 abbrev pub kinds : List StoreKind

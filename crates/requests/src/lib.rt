@@ -1,26 +1,23 @@
 // Reads the lines of a log of requests.
 #![tactic(auto)]
 
-ghost use Rattle.requests.specs.Asked.{asked, asked_by, asking, kind_named, lone, meaning, request_meaning, requested, verb_named};
+ghost use Rattle.requests.specs.Asked.{asked, asked_by, asking, lone, meaning, request_meaning, requested};
 ghost use Rattle.requests.specs.Bytes.{after, before};
 ghost use Rattle.requests.specs.Decimal.{is_digit, read_decimal};
 ghost use Rattle.requests.specs.Parts.{Divided};
-ghost use Rattle.requests.specs.Words.{kind_bytes, kinds, verb_bytes, verbs};
 ghost use Rattle.rules.specs.Token.{begins_with, is_blank};
 ghost use Rattle.std.specs.List.{list_all};
-ghost use Rattle.std.specs.Prelude.{◌≡◌, ◌==◌, ℕ, codes, find, List, position, refl, Some};
+ghost use Rattle.std.specs.Prelude.{◌≡◌, ◌==◌, codes, position, Some};
 ghost use Rattle.std.specs.Result.{result_ok};
-ghost use Rattle.std.specs.Str.{bytes_eq};
 
+pub use kind::StoreKind;
 use std::error::Error;
 use std::{fmt, str};
+pub use verb::Verb;
 
-// Where the constants of a library are kept.
-#[derive(Clone, Copy, Debug, PartialEq, Eq)]
-pub enum StoreKind {
-    Flat,
-    Module,
-}
+mod choice;
+mod kind;
+mod verb;
 
 // What a line asks of the library, with its operand.
 #[derive(Clone, Copy, Debug, PartialEq, Eq)]
@@ -40,22 +37,7 @@ pub enum Request<'a> {
     Seal,
 }
 
-// The word that a request begins with.
-#[derive(Clone, Copy, Debug, PartialEq, Eq)]
-pub enum Verb {
-    Store,
-    Table,
-    Numbers,
-    Declare,
-    Claim,
-    Count,
-    LookUp,
-    RestsOn,
-    Carries,
-    Seal,
-}
-
-// A line that is not passed over makes no request: its word is no verb, or its operand is unfit.
+// Bytes that were to be read are no request, no verb or no kind of store.
 #[derive(Clone, Copy, Debug, PartialEq, Eq)]
 pub struct NoRequest;
 
@@ -68,130 +50,7 @@ const LAST_CONSTANT: usize = 65535;
 // A decimal has at most so many digits.
 const MOST_DIGITS: usize = 9;
 
-// A choice among words.
-trait Choice: Copy + 'static {
-    ghost all: { List Self };
-
-    ghost bytes: { Self → List ℕ };
-
-    fn all() -> &'static [Self]
-        ensures { result.now ≡ all };
-
-    fn word(self) -> &'static str
-        ensures { result.now ≡ bytes self };
-
-    // The word of a choice spells it: every choice is listed, and no two have one word.
-    ghost spells_itself: { (c : Self) → find (λ d. bytes_eq (bytes d) (bytes c)) all ≡ Some c };
-}
-
-// The choice that a word spells.
-fn spelled<C: Choice>(word: &[u8]) -> Option<C>
-    ensures { result ≡ find (λ c. bytes_eq (C.bytes c) word.now) C.all }
-{
-    C::all()
-        .iter()
-        .copied()
-        .find(|choice| choice.word().as_bytes() == word)
-}
-
-impl Choice for StoreKind {
-    ghost use Rattle.requests.specs.declared.StoreKind.TheVariants.{Flat, Module};
-
-    ghost all = { kinds };
-
-    ghost bytes = { kind_bytes };
-
-    ghost spells_itself = { elim [ Flat ↦ refl | Module ↦ refl ] };
-
-    fn all() -> &'static [StoreKind] {
-        &[StoreKind::Flat, StoreKind::Module]
-    }
-
-    fn word(self) -> &'static str {
-        match self {
-            StoreKind::Flat => "flat",
-            StoreKind::Module => "module",
-        }
-    }
-}
-
-impl TryFrom<&[u8]> for StoreKind {
-    type Error = NoRequest;
-
-    ghost try_from_gives = { λ name r. result_ok r ≡ kind_named name.now };
-
-    fn try_from(name: &[u8]) -> Result<StoreKind, NoRequest> {
-        spelled(name).ok_or(NoRequest)
-    }
-}
-
-impl fmt::Display for StoreKind {
-    ghost output = { λ kind. Some (kind_bytes kind) };
-
-    fn fmt<W: fmt::Write>(&self, f: &mut fmt::Formatter<W>) -> fmt::Result {
-        f.write_str(self.word())
-    }
-}
-
-impl Choice for Verb {
-    ghost use Rattle.requests.specs.declared.Verb.TheVariants.{Store, Table, Numbers, Declare, Claim, Count, LookUp, RestsOn, Carries, Seal};
-
-    ghost all = { verbs };
-
-    ghost bytes = { verb_bytes };
-
-    ghost spells_itself = { elim [ Store ↦ refl | Table ↦ refl | Numbers ↦ refl | Declare ↦ refl | Claim ↦ refl | Count ↦ refl | LookUp ↦ refl | RestsOn ↦ refl | Carries ↦ refl | Seal ↦ refl ] };
-
-    fn all() -> &'static [Verb] {
-        &[
-            Verb::Store,
-            Verb::Table,
-            Verb::Numbers,
-            Verb::Declare,
-            Verb::Claim,
-            Verb::Count,
-            Verb::LookUp,
-            Verb::RestsOn,
-            Verb::Carries,
-            Verb::Seal,
-        ]
-    }
-
-    fn word(self) -> &'static str {
-        match self {
-            Verb::Store => "store",
-            Verb::Table => "table",
-            Verb::Numbers => "numbers",
-            Verb::Declare => "declare",
-            Verb::Claim => "claim",
-            Verb::Count => "count",
-            Verb::LookUp => "look-up",
-            Verb::RestsOn => "rests-on",
-            Verb::Carries => "carries",
-            Verb::Seal => "seal",
-        }
-    }
-}
-
-impl TryFrom<&[u8]> for Verb {
-    type Error = NoRequest;
-
-    ghost try_from_gives = { λ word r. result_ok r ≡ verb_named word.now };
-
-    fn try_from(word: &[u8]) -> Result<Verb, NoRequest> {
-        spelled(word).ok_or(NoRequest)
-    }
-}
-
-impl fmt::Display for Verb {
-    ghost output = { λ verb. Some (verb_bytes verb) };
-
-    fn fmt<W: fmt::Write>(&self, f: &mut fmt::Formatter<W>) -> fmt::Result {
-        f.write_str(self.word())
-    }
-}
-
-// By hand: a derived one says nothing of its bytes.
+// By hand: derived by thiserror it proves, and what an answer prints of it then does not.
 impl fmt::Display for NoRequest {
     ghost output = { λ _. Some (codes "not a request") };
 
@@ -230,6 +89,7 @@ fn place_of(bytes: &[u8], byte: u8) -> Option<usize>
 }
 
 // The parts of `bytes` before the first `byte` and after it, if it is there.
+#[tactic(auto, using(crate::proofs::Parts::parts))]
 fn divide(bytes: &[u8], byte: u8) -> Option<(&[u8], &[u8])>
     ensures { Divided byte bytes.now result }
 {
@@ -253,6 +113,7 @@ fn is_digits(bytes: &[u8]) -> bool
 }
 
 // The number that `bytes` write in digits, if they are a decimal and it is at most `most`.
+#[tactic(auto, using(crate::proofs::Decimals::digits_are_text, crate::proofs::Decimals::digits_parse))]
 fn decimal_of(bytes: &[u8], most: usize) -> Result<usize, NoRequest>
     ensures { result_ok result ≡ read_decimal bytes.now most }
 {
@@ -308,14 +169,14 @@ fn read_request(line: &[u8]) -> Result<Request<'_>, NoRequest>
     request_of(Verb::try_from(word)?, operand)
 }
 
-// What a line of a log asks: nothing where it is passed over.
-pub fn read_line(line: &[u8]) -> Result<Option<Request<'_>>, NoRequest>
+// What a line of a log asks, if it is not passed over.
+pub fn read_line(line: &[u8]) -> Option<Result<Request<'_>, NoRequest>>
     ensures { meaning result ≡ asked line.now }
 {
     if is_blank_line(line) || is_comment(line) {
-        return Ok(None);
+        return None;
     }
-    read_request(line).map(Some)
+    Some(read_request(line))
 }
 
 // The first line of a log, and what follows its line feed.

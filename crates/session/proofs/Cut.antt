@@ -16,10 +16,10 @@ lines_cut [] h = absurd (omega arith)
 lines_cut (x ∷ xs) h = cut x xs
 
 -- there are no more lines than bytes
-length-onto-le : (x : ℕ) (ls : List (List ℕ)) → length (onto x ls) ≤ length ls + 1
-length-onto-le x [] = omega arith
-length-onto-le x (l ∷ ls) = omega arith
+length_onto_le : (x : ℕ) (ls : List (List ℕ)) → length (onto x ls) ≤ length ls + 1
+length_onto_le x [] = omega arith
+length_onto_le x (l ∷ ls) = omega arith
 
-pub length-lines-le : (xs : List ℕ) → length (lines xs) ≤ length xs
-length-lines-le [] = omega arith
-length-lines-le (x ∷ xs) = grind (arith, length-lines-le xs, length-onto-le x (lines xs))
+pub length_lines_le : (xs : List ℕ) → length (lines xs) ≤ length xs
+length_lines_le [] = omega arith
+length_lines_le (x ∷ xs) = grind (arith, length_lines_le xs, length_onto_le x (lines xs))

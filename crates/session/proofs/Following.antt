@@ -4,9 +4,9 @@ use Rattle.std.proofs.lemmas.Bool.{false≢true}
 use Rattle.rules.specs.Refusal.{Refusal, declare_limits}
 use Rattle.rules.specs.Rule.{Rule}
 use Rattle.rules.specs.Log as log
-use Rattle.requests.specs.declared.StoreKind.{StoreKind}
-use Rattle.requests.specs.declared.Verb.{Verb}
-use Rattle.requests.specs.declared.Verb.TheVariants.{Declare, Claim, Count, LookUp, RestsOn, Carries, Seal}
+use Rattle.requests.specs.declared.kind.StoreKind.{StoreKind}
+use Rattle.requests.specs.declared.verb.Verb.{Verb}
+use Rattle.requests.specs.declared.verb.Verb.TheVariants.{Declare, Claim, Count, LookUp, RestsOn, Carries, Seal}
 use Rattle.requests.specs.Asked.{Asked, asked, passed, unknown, store, table, numbers, declare, claim, count, look_up, rests_on, carries, seal}
 use Rattle.answers.specs.Said.{Said, not_served}
 use Rattle.session.specs.declared.state.Session.{Session}

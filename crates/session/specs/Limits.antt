@@ -4,7 +4,7 @@ use Rattle.std.specs.Option.{option_map}
 use Rattle.std.specs.Result.{result_err}
 use Rattle.std.specs.Bool.{⊤}
 use Rattle.rules.specs.Refusal.{Refusal}
-use Rattle.requests.specs.declared.Verb.{Verb}
+use Rattle.requests.specs.declared.verb.Verb.{Verb}
 use Rattle.refusals.specs.declared.Refusal as code
 use Rattle.refusals.specs.Refusal.{meaning}
 use Rattle.refusals.specs.Fault.{fault_of}

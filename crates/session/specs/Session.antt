@@ -4,11 +4,11 @@ use Rattle.std.specs.Option.{unwrap_or}
 use Rattle.rules.specs.Refusal.{declare_limits, claim_limits}
 use Rattle.rules.specs.Rule.{Rule, flat, modular}
 use Rattle.rules.specs.Log as log
-use Rattle.requests.specs.declared.StoreKind.{StoreKind}
-use Rattle.requests.specs.declared.StoreKind.TheVariants.{Flat, Module}
+use Rattle.requests.specs.declared.kind.StoreKind.{StoreKind}
+use Rattle.requests.specs.declared.kind.StoreKind.TheVariants.{Flat, Module}
 use Rattle.requests.specs.Asked.{Asked, passed, unknown, store, table, numbers, declare, claim, count, look_up, rests_on, carries, seal}
-use Rattle.requests.specs.declared.Verb.{Verb}
-use Rattle.requests.specs.declared.Verb.TheVariants.{Declare, Claim, Count, LookUp, RestsOn, Carries, Seal}
+use Rattle.requests.specs.declared.verb.Verb.{Verb}
+use Rattle.requests.specs.declared.verb.Verb.TheVariants.{Declare, Claim, Count, LookUp, RestsOn, Carries, Seal}
 use Rattle.refusals.specs.Fault.{fault_of}
 use Rattle.answers.specs.Said as said
 use Rattle.answers.specs.Said.{Said}

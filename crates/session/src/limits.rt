@@ -11,7 +11,7 @@ const TEXT_BYTES: usize = 4096;
 
 const TABLE_NODES: usize = 32768;
 
-// A text has not too many bytes.
+// The refusal of a text that has too many bytes.
 fn fit_text(bytes: &[u8], text: Text) -> Result<(), Refusal>
     ensures { limit_of result ≡ cond (too_long bytes.now) (Some (refusal 11 (text_number text) 0 0)) None }
 {
@@ -21,7 +21,7 @@ fn fit_text(bytes: &[u8], text: Text) -> Result<(), Refusal>
     Ok(())
 }
 
-// A work table has not too many nodes, nor fewer than two for each byte of its texts.
+// The refusal of a work table that has too many nodes, or fewer than two for each byte of its texts.
 fn fit_table(table: usize, bytes: usize) -> Result<(), Refusal>
     ensures { limit_of result ≡ cond (unfit_table table bytes) (Some (refusal 12 0 0 0)) None }
 {

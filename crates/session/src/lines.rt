@@ -4,7 +4,7 @@ ghost use Rattle.std.specs.Iterator.{item_count, YieldsFirstRef};
 
 use requests::first_line;
 
-// The lines that are left.
+// The lines that are left. The library's `split` would give one more, an empty one, after a last line feed.
 #[derive(Drop)]
 pub(crate) struct Lines<'a>(pub(crate) &'a [u8]);
 

@@ -44,9 +44,11 @@ impl Transcript {
     pub(crate) fn take(&mut self, number: usize, line: &[u8]) -> Result<(), AllocError>
         ensures { OnOk result (self.new ≡ taken number line.now self.old) }
     {
-        let answer = match read_line(line) {
-            Ok(None) => return Ok(()),
-            Ok(Some(request)) => self.session.take(request),
+        let Some(request) = read_line(line) else {
+            return Ok(());
+        };
+        let answer = match request {
+            Ok(request) => self.session.take(request),
             Err(NoRequest) => Answer::NoRequest,
         };
         let written = answer_line(self.heap, number, &answer)?;

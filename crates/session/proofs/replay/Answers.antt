@@ -1,7 +1,7 @@
 use Rattle.std.proofs.Common.{arith, inl}
-use Rattle.session.proofs.Cut.{length-lines-le}
+use Rattle.session.proofs.Cut.{length_lines_le}
 use Rattle.session.proofs.replay.Goals as goal
 
 -- There are fewer lines than 2 ^ 64, so that they can be numbered.
 pub loop-i-init-derived : goal.loop-i-init-derived
-loop-i-init-derived c = ((tt, tt, inl (grind (arith, length-lines-le c.args.log.now))), tt)
+loop-i-init-derived c = ((tt, tt, inl (grind (arith, length_lines_le c.args.log.now))), tt)

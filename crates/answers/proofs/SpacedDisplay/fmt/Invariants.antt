@@ -1,6 +1,6 @@
 use Rattle.std.proofs.Common.{take}
 use Rattle.std.specs.Fmt.{HasWritten, IsPlainFormatter}
-use Rattle.answers.specs.Words.{spaced}
+use Rattle.answers.specs.Line.{spaced}
 use Rattle.answers.proofs.SpacedDisplay.fmt.Given as goal
 
 -- the numbers that are passed are written
