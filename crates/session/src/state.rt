@@ -1,14 +1,15 @@
 // What a log has set so far, and the answers that follow from it.
 ghost use Rattle.answers.specs.Said.{meaning as said};
-ghost use Rattle.requests.specs.Asked.{request_meaning};
+ghost use Rattle.requests.specs.Asked.{meaning, request_meaning};
 ghost use Rattle.session.specs.Limits.{limit_of, limited_to};
 ghost use Rattle.session.specs.Session.{after, answer_to, start};
+ghost use Rattle.std.specs.Option.{option_map};
 ghost use Rattle.std.specs.Prelude.{◌≡◌, Some};
 
 use crate::limits::{claim_fault, declare_fault};
 use answers::Answer;
 use refusals::Refusal;
-use requests::{Request, StoreKind, Verb};
+use requests::{NoRequest, Request, StoreKind, Verb};
 
 // The lengths of the tables where a log sets none.
 const WORK_TABLE: usize = 32768;
@@ -94,13 +95,22 @@ impl Session {
         }
     }
 
-    // The answer to a request, and the session after it.
-    pub(crate) fn take(&mut self, request: Request<'_>) -> Answer<'static>
-        ensures answer { Some (said result) ≡ answer_to self.old (request_meaning request.entry) }
-        ensures next { self.new ≡ after self.old (request_meaning request.entry) }
+    // The answer to a line, if it has one, and the session after it.
+    pub(crate) fn take(
+        &mut self,
+        line: Option<Result<Request<'_>, NoRequest>>,
+    ) -> Option<Answer<'static>>
+        ensures answer { option_map said result ≡ answer_to self.old (meaning line.entry) }
+        ensures next { self.new ≡ after self.old (meaning line.entry) }
     {
-        let answer = self.answer(request);
-        *self = self.after(request);
-        answer
+        match line {
+            None => None,
+            Some(Err(NoRequest)) => Some(Answer::NoRequest),
+            Some(Ok(request)) => {
+                let answer = self.answer(request);
+                *self = self.after(request);
+                Some(answer)
+            }
+        }
     }
 }

@@ -1,9 +1,10 @@
 // The counts of the closing line.
 ghost use Rattle.answers.specs.Said.{meaning};
-ghost use Rattle.session.specs.Tallies.{counts_bytes, noted};
-ghost use Rattle.std.specs.Prelude.{◌≡◌, Some};
+ghost use Rattle.session.specs.Tallies.{closing_bytes, counts_bytes, noted};
+ghost use Rattle.std.specs.Prelude.{◌≡◌, IfOk, Some, string_bytes};
 
 use answers::Answer;
+use std::alloc::{AllocError, Global};
 use std::fmt;
 
 // How many answers there were of each sort.
@@ -35,6 +36,13 @@ impl Tally {
                 self.not_carried_out = self.not_carried_out.saturating_add(1);
             }
         }
+    }
+
+    // `A accepted, R refused, Q answered, B not carried out, C constants`.
+    pub(crate) fn closing_line(&self, heap: Global, constants: usize) -> Result<String, AllocError>
+        ensures { IfOk result (λ s. string_bytes s ≡ closing_bytes self.now constants) }
+    {
+        format!(in heap; "{self}, {constants} constants")
     }
 }
 

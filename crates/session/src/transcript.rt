@@ -4,8 +4,8 @@ ghost use Rattle.std.specs.Prelude.{◌≡◌, IfOk, OnOk, string_bytes};
 
 use crate::state::Session;
 use crate::totals::Tally;
-use answers::{Answer, answer_line};
-use requests::{NoRequest, read_line};
+use answers::answer_line;
+use requests::read_line;
 use std::alloc::{AllocError, Global};
 use std::marker::Model;
 
@@ -44,28 +44,21 @@ impl Transcript {
     pub(crate) fn take(&mut self, number: usize, line: &[u8]) -> Result<(), AllocError>
         ensures { OnOk result (self.new ≡ taken number line.now self.old) }
     {
-        let Some(request) = read_line(line) else {
-            return Ok(());
-        };
-        let answer = match request {
-            Ok(request) => self.session.take(request),
-            Err(NoRequest) => Answer::NoRequest,
-        };
-        let written = answer_line(self.heap, number, &answer)?;
-        writeln!(self.text, "{written}")?;
-        self.tally.note(&answer);
+        if let Some(answer) = self.session.take(read_line(line)) {
+            let written = answer_line(self.heap, number, &answer)?;
+            writeln!(self.text, "{written}")?;
+            self.tally.note(&answer);
+        }
         Ok(())
     }
 
     // Adds the counts, and gives all that is printed.
-    #[tactic(auto, using(std::proofs::Common::append_assoc))]
     pub(crate) fn close(mut self) -> Result<String, AllocError>
         ensures { IfOk result (λ s. string_bytes s ≡ closed self) }
     {
-        let tally = self.tally;
-        // The library has none as yet.
-        let constants = 0usize;
-        writeln!(self.text, "{tally}, {constants} constants")?;
+        // The library has no constants as yet.
+        let closing = self.tally.closing_line(self.heap, 0)?;
+        writeln!(self.text, "{}", closing.as_str())?;
         Ok(self.text)
     }
 }
