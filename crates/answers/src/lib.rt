@@ -3,12 +3,13 @@
 
 ghost use Rattle.answers.specs.Line.{answer_bytes, said_bytes, spaced};
 ghost use Rattle.answers.specs.Said.{meaning};
-ghost use Rattle.std.specs.Prelude.{◌≡◌, IfOk, Some, string_bytes};
+ghost use Rattle.std.specs.Prelude.{◌≡◌, ◌+◌, ◌-◌, ◌^◌, IfOk, length, min, Some, string_bytes};
 
 pub use refusals::Fault;
 use requests::{NoRequest, StoreKind, Verb};
 use std::alloc::{AllocError, Global};
 use std::fmt;
+use std::fmt::Write;
 
 // What is answered to a line of a log.
 #[derive(Clone, Copy, Debug, PartialEq, Eq)]
@@ -73,11 +74,29 @@ impl fmt::Display for Spaced<'_> {
     }
 }
 
+// Counts the bytes that are written.
+#[derive(Clone, Copy, Debug, PartialEq, Eq)]
+struct Length(usize);
+
+impl fmt::Write for Length {
+    ghost write_str_gives = { λ before bytes after. after.0 ≡ min (before.0 + length bytes) (2 ^ 64 - 1) };
+
+    fn write_str(&mut self, text: &str) -> fmt::Result {
+        self.0 = self.0.saturating_add(text.len());
+        Ok(())
+    }
+}
+
 // The line that answers line `number` of a log, without its line feed.
 pub fn answer_line(heap: Global, number: usize, answer: &Answer) -> Result<String, AllocError>
     ensures { IfOk result (λ s. string_bytes s ≡ answer_bytes number (meaning answer.now)) }
 {
-    format!(in heap; "{number}: {answer}")
+    // The text has the room that it needs from the beginning, and no more.
+    let mut length = Length(0);
+    let _ = write!(length, "{number}: {answer}");
+    let mut line = String::with_capacity(heap, length.0)?;
+    write!(line, "{number}: {answer}")?;
+    Ok(line)
 }
 
 #[cfg(test)]
