@@ -58,6 +58,7 @@ impl Transcript {
     {
         // The library has no constants as yet.
         let closing = self.tally.closing_line(self.heap, 0)?;
+        // A `&str`, so that the writing of a `String` is inlined in `take`, its one place.
         writeln!(self.text, "{}", closing.as_str())?;
         Ok(self.text)
     }
